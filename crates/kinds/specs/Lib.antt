@@ -1,0 +1,10 @@
+pub mod Bytes
+pub mod Forms
+pub mod Stamps
+pub mod Whole
+pub mod Volume
+pub mod Bounds
+pub mod Values
+pub mod Card
+pub mod Item
+pub mod Cases
