@@ -4,7 +4,7 @@ use mathlib.Core.Bool.{Bool, true, false, cond, not, _&&_}
 use mathlib.Core.Logic.{_⊎_, inl, inr, ⊎-elim}
 use Rattle.std.proofs.shelf.Tests.{both-ways, cases-bool, and-parts, and-from, not-true, not-from-false}
 use Rattle.kinds.specs.Stamps.{Order, Ordered, Before, Same}
-use Rattle.kinds.specs.Bounds.{same}
+use Rattle.kinds.specs.Bounds.{same, Not-after}
 
 -- a test that cannot succeed fails
 pub fails : (t : Bool) → (t ≡ true → ⊥) → t ≡ false
@@ -16,11 +16,13 @@ module _ {S : Type 0} (o : Order S) (laws : Ordered o) where
   pub same-not-before : (a b : S) → Same o a b → Before o a b → ⊥
   same-not-before a b e h = ⊎-elim (λ x. x .1 e) (⊎-elim (λ x. x .0 h) (λ x. x .1 e)) (laws .trichotomy a b)
 
-  pub not-before-itself : (a : S) → Before o a a → ⊥
-  not-before-itself a h = same-not-before a a refl h
+  -- a stamp is not after itself
+  pub le-refl : (a : S) → Not-after o a a
+  le-refl a = fails (o .before a a) (same-not-before a a refl)
 
-  pub not-both : (a b : S) → Before o a b → Before o b a → ⊥
-  not-both a b h k = ⊎-elim (λ x. x .2 k) (⊎-elim (λ x. x .0 h) (λ x. x .0 h)) (laws .trichotomy a b)
+  -- a stamp before another is not after it
+  pub lt-le : (a b : S) → Before o a b → Not-after o a b
+  lt-le a b h = fails (o .before b a) (λ k. ⊎-elim (λ x. x .2 k) (⊎-elim (λ x. x .0 h) (λ x. x .0 h)) (laws .trichotomy a b))
 
   -- neither before nor after: the same
   pub otherwise-same : (a b : S) → o .before a b ≡ false → o .before b a ≡ false → Same o a b

@@ -1,8 +1,9 @@
 -- Bounds, for any stamp kind.
+use mathlib.Core.Path.{_≡_}
 use mathlib.Core.Bool.{Bool, true, false, cond, not, _&&_}
 use Rattle.std.specs.declared.option.Option.{Option}
 use Rattle.std.specs.declared.option.Option.the-variants.{Some, None}
-use Rattle.kinds.specs.Stamps.{Order, Before, Same, Under}
+use Rattle.kinds.specs.Stamps.{Order}
 
 -- the later of two stamps; of two that are the same, the first
 abbrev pub later : {S : Type 0} → Order S → S → S → S
@@ -19,7 +20,7 @@ same o a b = not (o .before a b) && not (o .before b a)
 
 -- a is not after b
 abbrev pub Not-after : {S : Type 0} → Order S → S → S → Type 0
-Not-after o a b = Before o b a → ⊥
+Not-after o a b = o .before b a ≡ false
 
 -- a is not after a bound that may be absent
 abbrev pub Not-over : {S : Type 0} → Order S → S → Option S → Type 0

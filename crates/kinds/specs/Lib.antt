@@ -7,4 +7,3 @@ pub mod Bounds
 pub mod Values
 pub mod Card
 pub mod Item
-pub mod Cases

@@ -1,0 +1,11 @@
+pub mod Refusals
+pub mod Tables
+pub mod Rows
+pub mod Sheets
+pub mod Station
+pub mod Deciding
+pub mod Registry
+pub mod Daybook
+pub mod Runs
+pub mod Account
+pub mod Cases
