@@ -1,2 +1,17 @@
 pub mod Members
 pub mod Views
+pub mod Laid
+pub mod Stations
+pub mod RowLaws
+pub mod Sizes
+pub mod Queues
+pub mod Journals
+pub mod StampOrder
+pub mod Plays
+pub mod FinalOrder
+pub mod History
+pub mod Leaves
+pub mod Bounds
+pub mod Jobs
+pub mod AtStations
+pub mod Acceptance
