@@ -37,11 +37,11 @@ use Rattle.protocol.proofs.RowLaws.{nth-some, write-put, value-put, read-put, 
 
 -- what the tables hold at a record; past their end the least stamp and nothing else
 module _ {S R : Type 0} (o : Order S) where
-  abbrev top-in : Option (Row S R) → S
+  abbrev pub top-in : Option (Row S R) → S
   top-in None = o .least
   top-in (Some r) = write-of r
 
-  abbrev read-in : Option (Row S R) → S
+  abbrev pub read-in : Option (Row S R) → S
   read-in None = o .least
   read-in (Some r) = r .read
 
@@ -52,7 +52,7 @@ module _ {S R : Type 0} (o : Order S) where
   read-at rows x = read-in (nth rows x)
 
 module _ {S R : Type 0} where
-  abbrev older-in : Option (Row S R) → List S
+  abbrev pub older-in : Option (Row S R) → List S
   older-in None = []
   older-in (Some r) = older r
 
@@ -63,7 +63,7 @@ module _ {S R : Type 0} where
   stood-at rows x = mapped stood (nth rows x)
 
 module _ {S : Type 0} where
-  abbrev first-in : Option (Option S) → Option S
+  abbrev pub first-in : Option (Option S) → Option S
   first-in None = None
   first-in (Some f) = f
 
@@ -229,10 +229,10 @@ module _ {S R : Type 0} (o : Order S) (laws : Ordered o) (values : List R) (jobs
       }
 
   -- a row after the job, by whether it puts and looks there
-  abbrev After : (x : ℕ) → Option (Row S R) → Option (Option S) → Type 0
+  abbrev pub After : (x : ℕ) → Option (Row S R) → Option (Option S) → Type 0
   After x r g = Row-ok o values (jobs ++ (d ∷ [])) x (last x) (mapped stood r) (top-in o r) (older-in r) (first-in g)
 
-  row-accepted : (x : ℕ) (b : Bool) (p : Option R) → put-of x (d .puts) ≡ p → (r : Option (Row S R)) (g : Option (Option S)) → nth rows x ≡ r → nth firsts x ≡ g → (r ≡ None → put-of x (d .puts) ≡ None) → (g ≡ None → put-of x (d .puts) ≡ None) → After x (mapped (accepted-row o (d .stamp) p b) r) (mapped (first-by (d .stamp) p) g)
+  pub row-accepted : (x : ℕ) (b : Bool) (p : Option R) → put-of x (d .puts) ≡ p → (r : Option (Row S R)) (g : Option (Option S)) → nth rows x ≡ r → nth firsts x ≡ g → (r ≡ None → put-of x (d .puts) ≡ None) → (g ≡ None → put-of x (d .puts) ≡ None) → After x (mapped (accepted-row o (d .stamp) p b) r) (mapped (first-by (d .stamp) p) g)
   row-accepted x b p e r g i j inr-ok ing-ok = by b p e r g (subst (λ (z : Option (Option S)). Row-ok o values jobs x (last x) (mapped stood r) (top-in o r) (older-in r) (first-in z)) j (subst (λ (z : Option (Row S R)). Row-ok o values jobs x (last x) (mapped stood z) (top-in o z) (older-in z) (first-at firsts x)) i (ok .row x))) (subst (λ (z : Option (Row S R)). (v : R) → put-of x (d .puts) ≡ Some v → Lt o (top-in o z) (d .stamp)) i (f .over-write x)) inr-ok ing-ok
     where
       left : (r : Option (Row S R)) (g : Option (Option S)) → Row-ok o values jobs x (last x) (mapped stood r) (top-in o r) (older-in r) (first-in g) → put-of x (d .puts) ≡ None → After x r g
@@ -265,7 +265,7 @@ module _ {S R : Type 0} (o : Order S) (laws : Ordered o) (values : List R) (jobs
       by false (Some v) e (Some t) (Some g) h l m n = put t g v e h (l v e)
 
   -- the write stamps only rise
-  top-rises : (x : ℕ) (b : Bool) (p : Option R) → put-of x (d .puts) ≡ p → (r : Option (Row S R)) → nth rows x ≡ r → Le o (top-in o r) (top-in o (mapped (accepted-row o (d .stamp) p b) r))
+  pub top-rises : (x : ℕ) (b : Bool) (p : Option R) → put-of x (d .puts) ≡ p → (r : Option (Row S R)) → nth rows x ≡ r → Le o (top-in o r) (top-in o (mapped (accepted-row o (d .stamp) p b) r))
   top-rises x b p e None i = le-refl o laws (o .least)
   top-rises x true None e (Some t) i = le-refl o laws (write-of t)
   top-rises x false None e (Some t) i = le-refl o laws (write-of t)
@@ -275,13 +275,13 @@ module _ {S R : Type 0} (o : Order S) (laws : Ordered o) (values : List R) (jobs
       subst (λ (z : S). Le o (write-of t) z) (sym (write-put v (d .stamp) t)) (lt-le o laws _ _ (subst (λ (z : Option (Row S R)). Lt o (top-in o z) (d .stamp)) i (f .over-write x v e)))
 
   -- the read stamps too, and a look raises its record's
-  read-rises : (b : Bool) (p : Option R) (r : Option (Row S R)) → Le o (read-in o r) (read-in o (mapped (accepted-row o (d .stamp) p b) r))
+  pub read-rises : (b : Bool) (p : Option R) (r : Option (Row S R)) → Le o (read-in o r) (read-in o (mapped (accepted-row o (d .stamp) p b) r))
   read-rises b p None = le-refl o laws (o .least)
   read-rises true None (Some t) = later-left o laws (t .read) (d .stamp)
   read-rises false None (Some t) = le-refl o laws (t .read)
   read-rises true (Some v) (Some t) = subst (λ (z : S). Le o (t .read) z) (sym (read-put v (d .stamp) (with-look o (d .stamp) t))) (later-left o laws (t .read) (d .stamp))
   read-rises false (Some v) (Some t) = subst (λ (z : S). Le o (t .read) z) (sym (read-put v (d .stamp) t)) (le-refl o laws (t .read))
 
-  read-raised : (p : Option R) (t : Row S R) → Le o (d .stamp) (read-in o (Some (accepted-row o (d .stamp) p true t)))
+  pub read-raised : (p : Option R) (t : Row S R) → Le o (d .stamp) (read-in o (Some (accepted-row o (d .stamp) p true t)))
   read-raised None t = later-right o laws (t .read) (d .stamp)
   read-raised (Some v) t = subst (λ (z : S). Le o (d .stamp) z) (sym (read-put v (d .stamp) (with-look o (d .stamp) t))) (later-right o laws (t .read) (d .stamp))

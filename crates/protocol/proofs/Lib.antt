@@ -15,3 +15,9 @@ pub mod Bounds
 pub mod Jobs
 pub mod AtStations
 pub mod Acceptance
+pub mod Grows
+pub mod Invariant
+pub mod AtDesk
+pub mod AtRegistrar
+pub mod AtBroadcast
+pub mod Accounts

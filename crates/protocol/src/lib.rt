@@ -3,6 +3,7 @@ pub mod cases;
 pub mod entry;
 pub mod image;
 pub mod job;
+pub mod law;
 pub mod refusal;
 pub mod registrar;
 pub mod row;
