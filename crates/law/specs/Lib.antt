@@ -1,0 +1,4 @@
+pub mod Daybook
+pub mod Runs
+pub mod Account
+pub mod Cases

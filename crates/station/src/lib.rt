@@ -1,0 +1,2 @@
+// Jobs at their stations.
+pub mod job;
