@@ -1,4 +1,4 @@
--- The worked cases: picks, and runs of whole stamps on a register of two records.
+-- The worked cases: picks, written forms, and runs of whole stamps on a register of two records.
 use mathlib.Core.Path.{_≡_}
 use mathlib.Core.Bool.{true, false}
 use mathlib.Core.List.{List, [], _∷_, _++_, map}
@@ -9,7 +9,11 @@ use Rattle.std.specs.declared.option.Option.the-variants.{Some, None}
 use Rattle.std.specs.Options.{mapped}
 use Rattle.kinds.specs.Whole.{whole, whole-kind}
 use Rattle.kinds.specs.Volume.{volume-page, volume-kind}
+use Rattle.kinds.specs.Card.{card-kind}
+use Rattle.kinds.specs.Item.{item-kind}
 use Rattle.kinds.specs.declared.whole.Whole.{Whole}
+use Rattle.kinds.specs.declared.card.Unit.the-variants.{Metre, Inch}
+use Rattle.kinds.specs.declared.item.Item.the-variants.{Solid, SubAssembly}
 use Rattle.model.specs.declared.entry.Entry.{Entry}
 use Rattle.model.specs.declared.row.Row.{Row}
 use Rattle.model.specs.declared.image.ImageRow.{ImageRow}
@@ -92,6 +96,22 @@ pub record Worked-cases : Type 0 where
   pub next-volume : volume-kind .pick (volume-page 3 9999) (Some (volume-page 4 1)) ≡ Some (volume-page 4 0)
   pub no-page : volume-kind .pick (volume-page 3 9999) (Some (volume-page 4 0)) ≡ None
   pub new-volume : volume-kind .pick (volume-page 3 17) None ≡ Some (volume-page 4 0)
+  pub rounded-down : whole-kind .pick (whole 5) (Some (whole 8)) ≡ Some (whole 6)
+  pub onward : whole-kind .pick (whole 0) None ≡ Some (whole 65536)
+  pub next-page : volume-kind .pick (volume-page 9999 17) None ≡ Some (volume-page 9999 18)
+  pub none-after-last-page : volume-kind .pick (volume-page 9999 9999) None ≡ None
+  -- the kinds' numbers and some written forms
+  pub whole-number : whole-kind .order .number ≡ 1
+  pub volume-number : volume-kind .order .number ≡ 2
+  pub card-number : card-kind .number ≡ 1
+  pub item-number : item-kind .number ≡ 2
+  pub whole-form : whole-kind .order .form .written (whole 72623859790382856) ≡ 1 ∷ 2 ∷ 3 ∷ 4 ∷ 5 ∷ 6 ∷ 7 ∷ 8 ∷ []
+  pub volume-form : volume-kind .order .form .written (volume-page 258 772) ≡ 0 ∷ 0 ∷ 1 ∷ 2 ∷ 0 ∷ 0 ∷ 3 ∷ 4 ∷ []
+  pub card-form : card-kind .form .written (record { revision = 16909060; unit = Metre; mass = 84281096 }) ≡ 1 ∷ 2 ∷ 3 ∷ 4 ∷ 2 ∷ 0 ∷ 0 ∷ 0 ∷ 5 ∷ 6 ∷ 7 ∷ 8 ∷ []
+  pub inch-form : card-kind .form .written (record { revision = 0; unit = Inch; mass = 1 }) ≡ 0 ∷ 0 ∷ 0 ∷ 0 ∷ 3 ∷ 0 ∷ 0 ∷ 0 ∷ 0 ∷ 0 ∷ 0 ∷ 1 ∷ []
+  pub solid-form : item-kind .form .written (Solid 16909060) ≡ 1 ∷ 0 ∷ 0 ∷ 0 ∷ 1 ∷ 2 ∷ 3 ∷ 4 ∷ 0 ∷ 0 ∷ 0 ∷ 0 ∷ []
+  pub sub-assembly-form : item-kind .form .written (SubAssembly 258 772) ≡ 2 ∷ 0 ∷ 0 ∷ 0 ∷ 1 ∷ 2 ∷ 3 ∷ 4 ∷ 0 ∷ 0 ∷ 0 ∷ 0 ∷ []
+  pub count-zero-form : item-kind .form .written (SubAssembly 258 0) ≡ 2 ∷ 0 ∷ 0 ∷ 0 ∷ 1 ∷ 2 ∷ 0 ∷ 1 ∷ 0 ∷ 0 ∷ 0 ∷ 0 ∷ []
   -- A (job 0) looks at 0 and puts 0; B (job 1) looks at 0. A is decided: 65,536. B looks at 1 and is decided: 32,768, before A.
   pub stands-early :
       answered (publishes an-image ∷ opens 0 1 blank-sheet ∷ looks 0 1 0 ∷ puts 0 1 0 7 ∷ opens 1 1 blank-sheet ∷ looks 1 1 0

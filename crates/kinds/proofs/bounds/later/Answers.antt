@@ -1,17 +1,9 @@
-use mathlib.Core.Path.{_≡_, sym, subst}
 use borrow.Author.Needs.{needs}
-use Rattle.kinds.specs.Bounds.{later, Later-law}
-use Rattle.kinds.proofs.BoundLaws.{later-law}
+use Rattle.kinds.proofs.BoundLaws.{later-told}
 use Rattle.kinds.proofs.bounds.later.Needs as need
 
 pub returns-in-Less : need.returns-in-Less
-returns-in-Less g c =
-    let o = g .S·Stamp .kind .order in
-    let e : c .args .b ≡ later o (c .args .a) (c .args .b) = search needs in
-    record { value = e; law = subst (Later-law o (c .args .a) (c .args .b)) (sym e) (later-law o (g .S·Stamp·met .lawful .ordered) _ _) }
+returns-in-Less g c = record { value = search needs; law = later-told (g .S·Stamp .kind .order) (g .S·Stamp·met .lawful .ordered) _ _ _ (search needs) }
 
 pub returns-in-rest : need.returns-in-rest
-returns-in-rest g c =
-    let o = g .S·Stamp .kind .order in
-    let e : c .args .a ≡ later o (c .args .a) (c .args .b) = search needs in
-    record { value = e; law = subst (Later-law o (c .args .a) (c .args .b)) (sym e) (later-law o (g .S·Stamp·met .lawful .ordered) _ _) }
+returns-in-rest g c = record { value = search needs; law = later-told (g .S·Stamp .kind .order) (g .S·Stamp·met .lawful .ordered) _ _ _ (search needs) }
