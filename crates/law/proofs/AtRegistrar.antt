@@ -57,7 +57,7 @@ module _ {S R : Type 0} where
   laid-push (v ∷ vs) w = ap (λ ls. laid-of v ∷ ls) (laid-push vs w)
 
   -- a submission that is taken finds a place in the queue
-  queue-room : (g : Registry S R) (t : Station S R) → submit-refused g t ≡ None → g .own .waiting < 16
+  pub queue-room : (g : Registry S R) (t : Station S R) → submit-refused g t ≡ None → g .own .waiting < 16
   queue-room g t e =
       let last : Option Refusal = refused-if (leb 4294967295 (g .own .tickets)) CountEnded None in
       let full : Option Refusal = refused-if (leb 16 (g .own .waiting)) QueueFull last in
@@ -69,7 +69,7 @@ module _ {S R : Type 0} where
       leb-false 16 (g .own .waiting) (refused-none (leb 16 (g .own .waiting)) QueueFull last (c .1) .0)
 
   -- a decision that is made finds a place in the journal
-  journal-room : (k : Kind S) (g : Registry S R) → decide-refused k g ≡ None → g .own .jobs < length (g .heads)
+  pub journal-room : (k : Kind S) (g : Registry S R) → decide-refused k g ≡ None → g .own .jobs < length (g .heads)
   journal-room k g e =
       let last : Option Refusal = refused-if (leb 32 (g .own .outcomes)) OutcomesFull None in
       let full : Option Refusal = refused-if (leb (length (g .heads)) (g .own .jobs)) JournalFull last in
@@ -130,7 +130,7 @@ module _ {S R : Type 0} (k : Kind S) (laws : Lawful k) (values : List R) (d : De
 
   -- decide: a verdict that accepts nothing
   module _ (w : Waiting S R) (ws : List (Waiting S R)) (q : queue-of (d .registry) ≡ w ∷ ws) where
-    first-in-line : In w (queue-of (d .registry))
+    pub first-in-line : In w (queue-of (d .registry))
     first-in-line = subst (λ (z : List (Waiting S R)). In w z) (sym q) here
 
     book-is : b .waiting ≡ laid-of w ∷ map laid-of ws
@@ -159,6 +159,14 @@ module _ {S R : Type 0} (k : Kind S) (laws : Lawful k) (values : List R) (d : De
       where
         now : queue-of (passed-over k (d .registry) w v) ≡ ws
         now = queue-decided (d .registry) (passed-over k (d .registry) w v) 0 w ws (h .sized) refl refl refl q
+
+    -- an accepted job fits the ones accepted before it
+    pub accepted-fits : (s : S) → verdict-on k (d .registry .rows) w ≡ Accepted s → Fits (k .order) values (b .accepted) (d .registry .rows) (accepted-job s (w .ticket) (leaf (w .entries)))
+    accepted-fits s e =
+        let ok = h .queue-ok w first-in-line in
+        fits k laws values (b .accepted) (shown-in (k .order) values (d .images) (length (d .images))) (d .registry .rows) (d .registry .firsts) (sizes (d .registry) (h .sized) .rows ∙ h .records) (h .rows-ok)
+        (shown-in (k .order) values (d .images) (ok .image)) w (ok .entries) (ok .inside) s
+        (accepted-by k (overtaken (k .order) (d .registry .rows) (w .entries)) (lower-bound (k .order) (d .registry .rows) (w .entries) (w .lower)) (upper-bound (k .order) (d .registry .rows) (w .entries) (w .upper)) s e) (w .ticket)
 
     -- an acceptance
     taken-on : decide-refused k (d .registry) ≡ None → (s : S) → verdict-on k (d .registry .rows) w ≡ Accepted s → Inv k values (record { registry = taken-up k (d .registry) w s; images = d .images; jobs = d .jobs }) (record { leaves = b .leaves; waiting = map laid-of ws; accepted = b .accepted ++ (accepted-job s (w .ticket) (leaf (w .entries)) ∷ []) })
@@ -226,8 +234,7 @@ module _ {S R : Type 0} (k : Kind S) (laws : Lawful k) (values : List R) (d : De
         room = journal-room k (d .registry) r
 
         f : Fits (k .order) values (b .accepted) (d .registry .rows) (accepted-job s (w .ticket) (leaf (w .entries)))
-        f = fits k laws values (b .accepted) last (d .registry .rows) (d .registry .firsts) size (h .rows-ok) (shown-in (k .order) values (d .images) (ok .image)) w (ok .entries) (ok .inside) s
-            (accepted-by k (overtaken (k .order) (d .registry .rows) (w .entries)) (lower-bound (k .order) (d .registry .rows) (w .entries) (w .lower)) (upper-bound (k .order) (d .registry .rows) (w .entries) (w .upper)) s e) (w .ticket)
+        f = accepted-fits s e
 
         keeps : (a : Accepted-job S R) → In a (b .accepted) → In a more
         keeps a m = in-left (accepted-job s (w .ticket) (leaf (w .entries)) ∷ []) m

@@ -20,3 +20,5 @@ pub mod AtDesk
 pub mod AtRegistrar
 pub mod AtBroadcast
 pub mod EveryRun
+pub mod Keeping
+pub mod LeanOn

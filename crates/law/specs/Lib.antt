@@ -1,4 +1,5 @@
 pub mod Daybook
 pub mod Runs
 pub mod Account
+pub mod Promises
 pub mod Cases
