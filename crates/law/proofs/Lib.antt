@@ -22,3 +22,4 @@ pub mod AtBroadcast
 pub mod EveryRun
 pub mod Keeping
 pub mod LeanOn
+pub mod HandedOver

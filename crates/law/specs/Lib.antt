@@ -2,4 +2,5 @@ pub mod Daybook
 pub mod Runs
 pub mod Account
 pub mod Promises
+pub mod HandOver
 pub mod Cases
