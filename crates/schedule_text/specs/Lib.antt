@@ -1,0 +1,7 @@
+pub mod Words
+pub mod Reasons
+pub mod Answers
+pub mod Laws
+pub mod Commands
+pub mod Lines
+pub mod Runs
