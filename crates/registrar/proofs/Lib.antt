@@ -1,0 +1,5 @@
+mod Filling
+mod Steps
+mod Heads
+mod Wholes
+mod Decisions

@@ -1,2 +1,3 @@
 pub mod Deciding
 pub mod Registry
+pub mod Calls

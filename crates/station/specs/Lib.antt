@@ -1,1 +1,3 @@
 pub mod Station
+pub mod Heard
+pub mod Places
