@@ -1,4 +1,4 @@
 // What a run is, and the law that binds every run.
 pub mod accounts;
-pub mod handover;
 pub mod cases;
+pub mod handover;
