@@ -1,0 +1,15 @@
+pub mod Faults
+pub mod Lengths
+pub mod Heading
+pub mod Directory
+pub mod Values
+pub mod Names
+pub mod Blocks
+pub mod Laying
+pub mod Play
+pub mod Rule
+pub mod Played
+pub mod Journal
+pub mod Theorems
+pub mod Laid
+pub mod Writing
