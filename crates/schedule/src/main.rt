@@ -1,7 +1,7 @@
 // Reads a schedule from standard input, and prints what its calls answer. A line that is no call
 // ends the program with status 1.
+use schedule_desk::run::run;
 use schedule_text::run::Ending;
-use schedule_text::run::run;
 use std::error::AnyError;
 use std::io::Read;
 use std::io::Write;
