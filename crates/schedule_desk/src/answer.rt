@@ -1,4 +1,8 @@
 // What a call answers, as it is printed behind the colon.
+ghost use mathlib.Core.Path.{_≡_};
+ghost use mathlib.Core.Bool.{Bool, true, false};
+ghost use Rattle.std.specs.declared.option.Option.the-variants.{Some};
+ghost use Rattle.schedule_desk.specs.Answers.{verdict-text, outcome-text, standing-word, answer-text, refuses};
 use model::refusal::Refusal;
 use model::verdict::Outcome;
 use model::verdict::OutcomeClone;
@@ -29,6 +33,8 @@ pub enum Answer<S, R> {
 pub struct ShownVerdict<S>(pub Verdict<S>);
 
 pub impl<S: Notation> fmt::Display for ShownVerdict<S> as ShownVerdictDisplay {
+    ghost shown = { λ x. Some (verdict-text (S·Notation .notes) (x .0)) };
+
     fn fmt<W: fmt::Write>(&self, f: &mut fmt::Formatter<W>) -> fmt::Result {
         match self.0 {
             Verdict::Accepted { stamp } => {
@@ -47,6 +53,8 @@ pub impl<S: Notation> fmt::Display for ShownVerdict<S> as ShownVerdictDisplay {
 pub struct ShownOutcome<S>(pub Outcome<S>);
 
 pub impl<S: Notation> fmt::Display for ShownOutcome<S> as ShownOutcomeDisplay {
+    ghost shown = { λ x. Some (outcome-text (S·Notation .notes) (x .0)) };
+
     fn fmt<W: fmt::Write>(&self, f: &mut fmt::Formatter<W>) -> fmt::Result {
         let ticket = self.0.ticket;
         let verdict = ShownVerdict(self.0.verdict);
@@ -55,7 +63,9 @@ pub impl<S: Notation> fmt::Display for ShownOutcome<S> as ShownOutcomeDisplay {
 }
 
 // A standing in words.
-pub fn standing_text(standing: Standing) -> &'static str {
+pub fn standing_text(standing: Standing) -> &'static str
+    ensures { λ r. ⌜ now r ≡ standing-word standing ⌝ }
+{
     match standing {
         Standing::Live => "live",
         Standing::Shut => "shut",
@@ -63,6 +73,8 @@ pub fn standing_text(standing: Standing) -> &'static str {
 }
 
 pub impl<S: Notation, R: Notation> fmt::Display for Answer<S, R> as AnswerDisplay {
+    ghost shown = { λ x. Some (answer-text (S·Notation .notes) (R·Notation .notes) x) };
+
     fn fmt<W: fmt::Write>(&self, f: &mut fmt::Formatter<W>) -> fmt::Result {
         match self {
             Answer::Records(records) => write!(f, "{records} records"),
@@ -89,7 +101,9 @@ pub impl<S: Notation, R: Notation> fmt::Display for Answer<S, R> as AnswerDispla
 
 impl<S, R> Answer<S, R> {
     // Whether the call was refused.
-    pub fn is_refusal(&self) -> bool {
+    pub fn is_refusal(&self) -> bool
+        ensures { λ r. ⌜ r ≡ refuses (now (self .entry)) ⌝ }
+    {
         matches!(self, Answer::Refused(_))
     }
 }

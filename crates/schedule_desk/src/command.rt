@@ -1,4 +1,6 @@
 // The commands on a register.
+ghost use Rattle.std.specs.declared.option.Option.the-variants.{Some};
+ghost use Rattle.schedule_desk.specs.Answers.{call-text};
 use crate::numbers::Number;
 use crate::numbers::NumberDisplay;
 use std::fmt;
@@ -59,6 +61,8 @@ pub enum Command<R> {
 
 // A call as its answer names it.
 pub impl<R> fmt::Display for Call<R> as CallDisplay {
+    ghost shown = { λ x. Some (call-text x) };
+
     fn fmt<W: fmt::Write>(&self, f: &mut fmt::Formatter<W>) -> fmt::Result {
         match self {
             Call::Publish => write!(f, "publish"),

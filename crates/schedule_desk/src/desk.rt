@@ -1,4 +1,7 @@
 // A desk: one registrar with its tables, the images it published, and the jobs and tickets by name.
+ghost use mathlib.Core.Path.{_≡_};
+ghost use Rattle.std.specs.Of.Vec.{vec-items};
+ghost use Rattle.law.specs.HandOver.{with-tables, Accounted-for};
 use crate::holdings::Holdings;
 use crate::images::Published;
 use crate::reason::Fault;
@@ -70,7 +73,10 @@ impl<S: Stamp, R: Copy> Desk<S, R> {
 
     // Ends the run: every ticket is waived, and the tables are handed over. Answers the number of jobs in
     // the journal.
-    pub fn close(self) -> usize {
+    pub fn close(self) -> usize
+        ensures jobs { λ r. ⌜ r ≡ self .registrar .jobs ⌝ }
+        ensures law { λ _. ⌜ Accounted-for (S·Stamp .kind) (with-tables (self .registrar) (vec-items (self .store .rows)) (vec-items (self .store .firsts)) (vec-items (self .store .opening)) (vec-items (self .store .queue)) (vec-items (self .store .queued)) (vec-items (self .store .outcomes)) (vec-items (self .store .heads)) (vec-items (self .store .lines))) ⌝ }
+    {
         let Desk {
             heap: _,
             registrar,

@@ -1,7 +1,8 @@
 // Numbers of any size.
-ghost use mathlib.Core.Path.{_≡_};
 ghost use Prim.Native.Nat.{_≤_};
-ghost use Rattle.std.specs.Options.{Cases};
+ghost use Rattle.std.specs.declared.option.Option.the-variants.{Some};
+ghost use Rattle.std.specs.Of.String.{string-bytes};
+ghost use Rattle.std.specs.Vec.{made};
 use crate::reason::Fault;
 use crate::reason::FaultFromAlloc;
 use crate::reason::FaultFromReason;
@@ -18,6 +19,8 @@ pub struct Number {
 }
 
 pub impl fmt::Display for Number as NumberDisplay {
+    ghost shown = { λ x. Some (string-bytes (x .digits)) };
+
     fn fmt<W: fmt::Write>(&self, f: &mut fmt::Formatter<W>) -> fmt::Result {
         f.write_str(self.digits.as_str())
     }
@@ -34,7 +37,9 @@ fn is_number(word: &[u8]) -> bool {
 }
 
 // The number that a word of digits writes, or the largest where it is above that.
-pub fn capped(word: &[u8], most: u64) -> Result<u64, Reason> {
+pub fn capped(word: &[u8], most: u64) -> Result<u64, Reason>
+    ensures { λ r. ⌜ made r (λ n. n ≤ most) ⌝ }
+{
     if !is_number(word) {
         return Err(Reason::Number);
     }
