@@ -1,4 +1,7 @@
 // The archive: a register's opening values and its journal of accepted jobs, in bytes.
+
+#![tactic(auto)]
+
 mod blocks;
 mod directory;
 pub mod fault;

@@ -1,4 +1,7 @@
 // One day of a small register: founding, a station's job, deciding, publishing and settling.
+
+#![tactic(auto)]
+
 use kinds::card::{Card, Unit};
 use kinds::stamp::Stamp;
 use kinds::whole::Whole;

@@ -1,4 +1,7 @@
 // Stamp kinds and record kinds: the two interfaces, their laws, and the kinds that are supplied.
+
+#![tactic(auto)]
+
 pub mod bounds;
 pub mod card;
 pub mod item;

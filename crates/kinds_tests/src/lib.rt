@@ -1,4 +1,7 @@
 // Boundary tables of the stamp kinds and the record kinds, run against the library.
+
+#![tactic(auto)]
+
 #[cfg(test)]
 mod bound_tests;
 #[cfg(test)]

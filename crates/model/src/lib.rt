@@ -1,4 +1,7 @@
 // The register's records: rows, entries, image rows, verdicts and refusals.
+
+#![tactic(auto)]
+
 pub mod entry;
 pub mod image;
 pub mod refusal;

@@ -1,4 +1,7 @@
 // How stamps and values are written as text.
+
+#![tactic(auto)]
+
 pub mod card;
 pub mod cut;
 pub mod hex;

@@ -1,4 +1,7 @@
 // The registrar: its tables, the queue, the journal and the tickets.
+
+#![tactic(auto)]
+
 pub mod bundle;
 mod decide;
 mod found;

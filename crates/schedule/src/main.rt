@@ -1,5 +1,8 @@
 // Reads a schedule from standard input, and prints what its calls answer. A line that is no call
 // ends the program with status 1.
+
+#![tactic(auto)]
+
 use anyhow::anyhow;
 use schedule_desk::run::run;
 use schedule_text::run::Ending;

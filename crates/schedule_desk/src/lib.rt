@@ -1,5 +1,8 @@
 // Whole schedules: a desk that holds one registrar with its images, jobs and tickets, and carries out
 // one command to a line.
+
+#![tactic(auto)]
+
 pub mod act;
 pub mod answer;
 pub mod command;

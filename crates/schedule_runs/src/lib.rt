@@ -1,4 +1,7 @@
 // Whole runs and their printouts.
+
+#![tactic(auto)]
+
 #[cfg(test)]
 mod cases;
 #[cfg(test)]

@@ -1,4 +1,7 @@
 // Schedules and their printouts.
+
+#![tactic(auto)]
+
 #[cfg(test)]
 mod commands;
 #[cfg(test)]

@@ -1,4 +1,7 @@
 // The schedule program as a function on text.
+
+#![tactic(auto)]
+
 pub mod answer;
 pub mod command;
 pub mod line;

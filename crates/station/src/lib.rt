@@ -1,4 +1,7 @@
 // Jobs at their stations.
+
+#![tactic(auto)]
+
 mod admit;
 mod bounds;
 pub mod job;

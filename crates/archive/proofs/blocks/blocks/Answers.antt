@@ -5,19 +5,19 @@ use Rattle.archive.proofs.Counting.{stride, met, refused}
 use Rattle.archive.proofs.Steps.{holds-found, holds_passes, below_fails, below_passes, rest_holds, beyond_more, numbers_more, noted_more, blocks_more}
 use Rattle.archive.proofs.blocks.blocks.Goals as goal
 
-pub returns-in-err-end : goal.returns-in-err-end
-returns-in-err-end g c =
-    let p = err_from_is_err_and c.from-residual.result c.from-residual.ensures.1 in
+pub returns-in_err-end : goal.returns-in_err-end
+returns-in_err-end g c =
+    let p = err_from_is_err_and c.from_residual.result c.from_residual.ensures.1 in
     let m = blocks_more g.S.Stamp.kind.order g.R.Record.kind.form c.args.bytes.now c.args.n c.loop-i.i c.args.jobs c.loop-i.from c.loop-i.low (omega arith) in
-    p.1 ∙ ap Err p.2 ∙ sym (m ∙ refused _ c.in-err-end.ensures) ∙ c.loop-i.invariant
+    p.1 ∙ ap Err p.2 ∙ sym (m ∙ refused _ c.in_err-end.ensures) ∙ c.loop-i.invariant
 
-pub returns-in-err-h : goal.returns-in-err-h
-returns-in-err-h g c =
-    let p = err_from_is_err_and c.from-residual-in-err-h.result c.from-residual-in-err-h.ensures.1 in
+pub returns-in_err-h : goal.returns-in_err-h
+returns-in_err-h g c =
+    let p = err_from_is_err_and c.from_residual-in_err-h.result c.from_residual-in_err-h.ensures.1 in
     let m = blocks_more g.S.Stamp.kind.order g.R.Record.kind.form c.args.bytes.now c.args.n c.loop-i.i c.args.jobs c.loop-i.from c.loop-i.low (omega arith) in
-    p.1 ∙ ap Err p.2 ∙ sym (m ∙ met _ c.in-ok-end.ensures ∙ refused _ c.in-err-h.ensures) ∙ c.loop-i.invariant
+    p.1 ∙ ap Err p.2 ∙ sym (m ∙ met _ c.in_ok-end.ensures ∙ refused _ c.in_err-h.ensures) ∙ c.loop-i.invariant
 
 pub loop-i-preserved : goal.loop-i-preserved
 loop-i-preserved g c =
     let m = blocks_more g.S.Stamp.kind.order g.R.Record.kind.form c.args.bytes.now c.args.n c.loop-i.i c.args.jobs c.loop-i.from c.loop-i.low (omega arith) in
-    sym (m ∙ met _ c.in-ok-end.ensures ∙ met _ c.in-ok-h.ensures) ∙ c.loop-i.invariant
+    sym (m ∙ met _ c.in_ok-end.ensures ∙ met _ c.in_ok-h.ensures) ∙ c.loop-i.invariant

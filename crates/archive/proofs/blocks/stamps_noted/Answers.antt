@@ -5,8 +5,8 @@ use Rattle.archive.proofs.Counting.{stride, met, refused}
 use Rattle.archive.proofs.Steps.{holds-found, holds_passes, below_fails, below_passes, rest_holds, beyond_more, numbers_more, noted_more, blocks_more}
 use Rattle.archive.proofs.blocks.stamps_noted.Goals as goal
 
-pub returns-then-is-none : goal.returns-then-is-none
-returns-then-is-none g c = sym (noted_more g.S.Stamp.kind.order c.args.bytes.now c.args.at c.args.count c.loop-i.i false (omega arith) (ap is_some (sym c.stamp.ensures) ∙ c.if-is-none.ensures)) ∙ c.loop-i.invariant
+pub returns-then-is_none : goal.returns-then-is_none
+returns-then-is_none g c = sym (noted_more g.S.Stamp.kind.order c.args.bytes.now c.args.at c.args.count c.loop-i.i false (omega arith) (ap is_some (sym c.stamp.ensures) ∙ c.if-is_none.ensures)) ∙ c.loop-i.invariant
 
 pub loop-i-preserved : goal.loop-i-preserved
-loop-i-preserved g c = sym (noted_more g.S.Stamp.kind.order c.args.bytes.now c.args.at c.args.count c.loop-i.i true (omega arith) (ap is_some (sym c.stamp.ensures) ∙ c.if-is-none.ensures)) ∙ c.loop-i.invariant
+loop-i-preserved g c = sym (noted_more g.S.Stamp.kind.order c.args.bytes.now c.args.at c.args.count c.loop-i.i true (omega arith) (ap is_some (sym c.stamp.ensures) ∙ c.if-is_none.ensures)) ∙ c.loop-i.invariant

@@ -10,7 +10,7 @@ of_made (Err e) h = tt
 
 pub returns : goal.returns
 returns g c =
-    let t : Bytes c.args.bytes.now = λ i. let b = c.type-inv.bytes i in omega (arith, b) in
+    let t : Bytes c.args.bytes.now = λ i. let b = c.type_inv.bytes i in omega (arith, b) in
     record {
       answer = c.examine.ensures;
       one_form = of_made c.examine.result (λ j e. one_form g.S.Stamp.kind.order g.R.Record.kind g.met.S.Stamp.lawful.ordered g.met.R.Record.written c.args.bytes.now j t (sym c.examine.ensures ∙ e));

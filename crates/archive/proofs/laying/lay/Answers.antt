@@ -3,4 +3,4 @@ use Rattle.archive.proofs.Laid.{laid-part}
 use Rattle.archive.proofs.laying.lay.Goals as goal
 
 pub returns : goal.returns
-returns c = laid-part c.args.at _ c.args.form.now c.copy-from-slice.new.self c.args.space.now c.copy-from-slice.ensures.after (omega arith)
+returns c = laid-part c.args.at _ c.args.form.now c.copy_from_slice.new.self c.args.space.now c.copy_from_slice.ensures.after (omega arith)

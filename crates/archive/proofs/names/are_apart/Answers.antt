@@ -6,11 +6,11 @@ use Rattle.archive.proofs.Counting.{stride, met, refused}
 use Rattle.archive.proofs.Steps.{holds-found, holds_passes, below_fails, below_passes, rest_holds, beyond_more, numbers_more, noted_more, blocks_more}
 use Rattle.archive.proofs.names.are_apart.Goals as goal
 
-pub returns-then-is-in : goal.returns-then-is-in
-returns-then-is-in c = sym (rest_holds c.args.names.now c.loop-i.i (omega arith) true c.is-in.result c.is-in.ensures c.if-is-in.true) ∙ c.loop-i.invariant
+pub returns-then-is_in : goal.returns-then-is_in
+returns-then-is_in c = sym (rest_holds c.args.names.now c.loop-i.i (omega arith) true c.is_in.result c.is_in.ensures c.if-is_in.true) ∙ c.loop-i.invariant
 
 pub loop-i-preserved : goal.loop-i-preserved
-loop-i-preserved c = sym (rest_holds c.args.names.now c.loop-i.i (omega arith) false c.is-in.result c.is-in.ensures c.if-is-in.false) ∙ c.loop-i.invariant
+loop-i-preserved c = sym (rest_holds c.args.names.now c.loop-i.i (omega arith) false c.is_in.result c.is_in.ensures c.if-is_in.false) ∙ c.loop-i.invariant
 
 pub returns : goal.returns
 returns c = sym (at_drop_all apart c.args.names.now c.loop-i.i (omega arith)) ∙ c.loop-i.invariant

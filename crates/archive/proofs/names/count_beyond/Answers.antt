@@ -9,7 +9,7 @@ use Rattle.std.proofs.lemmas.Bool.Decides.{nat_tests}
 
 pub loop-i-preserved : goal.loop-i-preserved
 loop-i-preserved c = (
-  sym (beyond_more c.args.more.now c.loop-i.i (omega arith) c.args.names.now c.loop-i.count c.one-beyond-count.result c.one-beyond-count.ensures) ∙ c.loop-i.invariant.0,
+  sym (beyond_more c.args.more.now c.loop-i.i (omega arith) c.args.names.now c.loop-i.count c.one_beyond-count.result c.one_beyond-count.ensures) ∙ c.loop-i.invariant.0,
   grind (arith, nat_tests),
 )
 

@@ -6,16 +6,16 @@ use Rattle.archive.proofs.Counting.{met, refused, at_end}
 use Rattle.archive.proofs.Entering.{stated_more, values_left}
 use Rattle.archive.proofs.play.load.Goals as goal
 
-pub returns-in-err-v : goal.returns-in-err-v
-returns-in-err-v g c =
-    let p = err_from_is_err_and c.from-residual.result c.from-residual.ensures.1 in
+pub returns-in_err-v : goal.returns-in_err-v
+returns-in_err-v g c =
+    let p = err_from_is_err_and c.from_residual.result c.from_residual.ensures.1 in
     let m = values_left g.R.Record.kind.form c.args.bytes.now c.args.at (length c.args.space.now) c.loop-i.i (omega arith) in
-    record { answer = p.1 ∙ ap Err p.2 ∙ sym (m ∙ refused _ c.in-err-v.ensures) ∙ c.loop-i.invariant.0; filled = IfOk-from_err c.from-residual.result _ c.from-residual.ensures.0 }
+    record { answer = p.1 ∙ ap Err p.2 ∙ sym (m ∙ refused _ c.in_err-v.ensures) ∙ c.loop-i.invariant.0; filled = IfOk-from_err c.from_residual.result _ c.from_residual.ensures.0 }
 
 pub loop-i-preserved : goal.loop-i-preserved
 loop-i-preserved g c = (
-  sym (values_left g.R.Record.kind.form c.args.bytes.now c.args.at (length c.args.space.now) c.loop-i.i (omega arith) ∙ met _ c.in-ok-v.ensures) ∙ c.loop-i.invariant.0,
-  stated_more g.R.Record.kind.form c.args.bytes.now c.args.at (length c.args.space.now) c.loop-i.i c.in-ok-v.v c.loop-i.space (omega arith) (omega arith) c.in-ok-v.ensures ∙ c.loop-i.invariant.1,
+  sym (values_left g.R.Record.kind.form c.args.bytes.now c.args.at (length c.args.space.now) c.loop-i.i (omega arith) ∙ met _ c.in_ok-v.ensures) ∙ c.loop-i.invariant.0,
+  stated_more g.R.Record.kind.form c.args.bytes.now c.args.at (length c.args.space.now) c.loop-i.i c.in_ok-v.v c.loop-i.space (omega arith) (omega arith) c.in_ok-v.ensures ∙ c.loop-i.invariant.1,
 )
 
 pub returns : goal.returns

@@ -7,8 +7,8 @@ use Rattle.archive.proofs.replay.open_table.Goals as goal
 
 pub loop-i-preserved : goal.loop-i-preserved
 loop-i-preserved c =
-    table_more c.args.least.now c.args.bytes.now c.args.start c.args.n c.loop-i.i _ c.loop-i.table c.lay-both.new.space
-    (omega arith) (omega arith) (search rules) (omega arith) (search rules) c.lay-both.ensures ∙ c.loop-i.invariant
+    table_more c.args.least.now c.args.bytes.now c.args.start c.args.n c.loop-i.i _ c.loop-i.table c.lay_both.new.space
+    (omega arith) (omega arith) (search rules) (omega arith) (search rules) c.lay_both.ensures ∙ c.loop-i.invariant
 
 pub returns : goal.returns
 returns c =

@@ -6,14 +6,14 @@ use Rattle.archive.proofs.Laid.{laid_next}
 use Rattle.archive.proofs.Entries.{block_split, block_long, front-wide}
 use Rattle.archive.proofs.writer.lay_block.Goals as goal
 
-pub lay-front-requires : goal.lay-front-requires
-lay-front-requires g c = let b = block_long g.S.Stamp.kind.order g.R.Record.kind.form c.args.stamp c.args.ticket c.args.entries.now g.met.S.Stamp.lawful.ordered.formed in omega (arith, b, c.requires.1)
+pub lay_front-requires : goal.lay_front-requires
+lay_front-requires g c = let b = block_long g.S.Stamp.kind.order g.R.Record.kind.form c.args.stamp c.args.ticket c.args.entries.now g.met.S.Stamp.lawful.ordered.formed in omega (arith, b, c.requires.1)
 
-pub lay-looks-middle-requires : goal.lay-looks-middle-requires
-lay-looks-middle-requires g c = let b = block_long g.S.Stamp.kind.order g.R.Record.kind.form c.args.stamp c.args.ticket c.args.entries.now g.met.S.Stamp.lawful.ordered.formed in omega (arith, b, c.requires.1)
+pub lay_looks-middle-requires : goal.lay_looks-middle-requires
+lay_looks-middle-requires g c = let b = block_long g.S.Stamp.kind.order g.R.Record.kind.form c.args.stamp c.args.ticket c.args.entries.now g.met.S.Stamp.lawful.ordered.formed in omega (arith, b, c.requires.1)
 
-pub lay-puts-requires : goal.lay-puts-requires
-lay-puts-requires g c = let b = block_long g.S.Stamp.kind.order g.R.Record.kind.form c.args.stamp c.args.ticket c.args.entries.now g.met.S.Stamp.lawful.ordered.formed in omega (arith, b, c.requires.1, c.lay-looks-middle.ensures.next)
+pub lay_puts-requires : goal.lay_puts-requires
+lay_puts-requires g c = let b = block_long g.S.Stamp.kind.order g.R.Record.kind.form c.args.stamp c.args.ticket c.args.entries.now g.met.S.Stamp.lawful.ordered.formed in omega (arith, b, c.requires.1, c.lay_looks-middle.ensures.next)
 
 pub returns : goal.returns
 returns g c =
@@ -23,15 +23,15 @@ returns g c =
     let lb : List ℕ = looks_in g.S.Stamp.kind.order g.R.Record.kind.form c.args.entries.now in
     let pb : List ℕ = puts_in g.S.Stamp.kind.order g.R.Record.kind.form c.args.entries.now in
     let d : List ℕ = c.args.space.now in
-    let e0 : c.lay-front.new.space ≡ laid_over c.args.at fb d =
-    c.lay-front.ensures ∙ ap (λ r. laid_over c.args.at (front_bytes g.S.Stamp.kind.order c.args.stamp c.args.ticket r c.count-puts-puts.result) d) c.count-looks-looks.ensures.value
-    ∙ ap (λ p. laid_over c.args.at (front_bytes g.S.Stamp.kind.order c.args.stamp c.args.ticket (look_count c.args.entries.now) p) d) c.count-puts-puts.ensures.value in
-    let e1 : c.lay-looks-middle.new.space ≡ laid_over c.args.at (fb ++ lb) d =
-    laid_next c.args.at (c.args.at + 16) fb lb d c.lay-front.new.space c.lay-looks-middle.new.space (omega (arith, fw)) (omega (arith, fw, b, c.requires.1)) e0 c.lay-looks-middle.ensures.space in
+    let e0 : c.lay_front.new.space ≡ laid_over c.args.at fb d =
+    c.lay_front.ensures ∙ ap (λ r. laid_over c.args.at (front_bytes g.S.Stamp.kind.order c.args.stamp c.args.ticket r c.count_puts-puts.result) d) c.count_looks-looks.ensures.value
+    ∙ ap (λ p. laid_over c.args.at (front_bytes g.S.Stamp.kind.order c.args.stamp c.args.ticket (look_count c.args.entries.now) p) d) c.count_puts-puts.ensures.value in
+    let e1 : c.lay_looks-middle.new.space ≡ laid_over c.args.at (fb ++ lb) d =
+    laid_next c.args.at (c.args.at + 16) fb lb d c.lay_front.new.space c.lay_looks-middle.new.space (omega (arith, fw)) (omega (arith, fw, b, c.requires.1)) e0 c.lay_looks-middle.ensures.space in
     let fl : length (fb ++ lb) ≡ 16 + length lb = length-append fb lb ∙ ap (λ n. n + length lb) fw in
-    let e2 : c.lay-puts.new.space ≡ laid_over c.args.at ((fb ++ lb) ++ pb) d =
-    laid_next c.args.at c.lay-looks-middle.result (fb ++ lb) pb d c.lay-looks-middle.new.space c.lay-puts.new.space (omega (arith, fl, c.lay-looks-middle.ensures.next)) (omega (arith, fl, b, c.requires.1)) e1 c.lay-puts.ensures.space in
+    let e2 : c.lay_puts.new.space ≡ laid_over c.args.at ((fb ++ lb) ++ pb) d =
+    laid_next c.args.at c.lay_looks-middle.result (fb ++ lb) pb d c.lay_looks-middle.new.space c.lay_puts.new.space (omega (arith, fl, c.lay_looks-middle.ensures.next)) (omega (arith, fl, b, c.requires.1)) e1 c.lay_puts.ensures.space in
     record {
       space = e2 ∙ ap (λ zs. laid_over c.args.at zs d) (block_split g.S.Stamp.kind.order g.R.Record.kind.form c.args.stamp c.args.ticket c.args.entries.now);
-      next = omega (arith, b, c.lay-puts.ensures.next, c.lay-looks-middle.ensures.next);
+      next = omega (arith, b, c.lay_puts.ensures.next, c.lay_looks-middle.ensures.next);
     }

@@ -11,8 +11,8 @@ returns-then-not-e g c =
     let r = laid_no c.args.e.seen (look_bytes g.S.Stamp.kind.order g.R.Record.kind.form (look_of c.args.e.number c.args.e.noted c.args.e.saw)) s c.args.at c.args.space.now in
     record { space = r.0; next = r.1 }
 
-pub lay-seen-requires : goal.lay-seen-requires
-lay-seen-requires g c =
+pub lay_seen-requires : goal.lay_seen-requires
+lay_seen-requires g c =
     let s : c.args.e.seen ≡ true = search rules in
     let x = look_bytes g.S.Stamp.kind.order g.R.Record.kind.form (look_of c.args.e.number c.args.e.noted c.args.e.saw) in
     let w : length x ≡ 22 = look-wide g.S.Stamp.kind.order g.R.Record.kind.form g.met.S.Stamp.lawful.ordered.formed g.met.R.Record.written (look_of c.args.e.number c.args.e.noted c.args.e.saw) in
@@ -26,6 +26,6 @@ returns g c =
     let x = look_bytes g.S.Stamp.kind.order g.R.Record.kind.form (look_of c.args.e.number c.args.e.noted c.args.e.saw) in
     let w : length x ≡ 22 = look-wide g.S.Stamp.kind.order g.R.Record.kind.form g.met.S.Stamp.lawful.ordered.formed g.met.R.Record.written (look_of c.args.e.number c.args.e.noted c.args.e.saw) in
     record {
-      space = c.lay-seen.ensures ∙ sym (ap (λ b. laid_over c.args.at (cond b x []) c.args.space.now) s);
+      space = c.lay_seen.ensures ∙ sym (ap (λ b. laid_over c.args.at (cond b x []) c.args.space.now) s);
       next = ap (λ n. c.args.at + n) (sym (ap (λ b. length (cond b x [])) s ∙ w));
     }

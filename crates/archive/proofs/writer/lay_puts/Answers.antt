@@ -6,16 +6,16 @@ use Rattle.archive.proofs.writer.lay_puts.Goals as goal
 pub loop-i-init : goal.loop-i-init
 loop-i-init g c = begins (puts_in g.S.Stamp.kind.order g.R.Record.kind.form) (put_in_entry g.S.Stamp.kind.order g.R.Record.kind.form) (puts_first g.S.Stamp.kind.order g.R.Record.kind.form) c.args.entries.now c.args.at c.args.space.now
 
-pub lay-put-here-requires : goal.lay-put-here-requires
-lay-put-here-requires g c =
+pub lay_put-here-requires : goal.lay_put-here-requires
+lay_put-here-requires g c =
     room (puts_in g.S.Stamp.kind.order g.R.Record.kind.form) (put_in_entry g.S.Stamp.kind.order g.R.Record.kind.form) (puts_first g.S.Stamp.kind.order g.R.Record.kind.form) c.args.entries.now
     c.args.at c.loop-i.here c.loop-i.i c.args.space.now c.loop-i.space c.index-entries-i.result (omega arith) c.index-entries-i.is c.loop-i.invariant (omega arith)
 
 pub loop-i-preserved : goal.loop-i-preserved
 loop-i-preserved g c =
     again (puts_in g.S.Stamp.kind.order g.R.Record.kind.form) (put_in_entry g.S.Stamp.kind.order g.R.Record.kind.form) (puts_first g.S.Stamp.kind.order g.R.Record.kind.form) c.args.entries.now
-    c.args.at c.loop-i.here c.lay-put-here.result c.loop-i.i c.args.space.now c.loop-i.space c.lay-put-here.new.space c.index-entries-i.result (omega arith) c.index-entries-i.is c.loop-i.invariant (omega arith)
-    c.lay-put-here.ensures.space c.lay-put-here.ensures.next
+    c.args.at c.loop-i.here c.lay_put-here.result c.loop-i.i c.args.space.now c.loop-i.space c.lay_put-here.new.space c.index-entries-i.result (omega arith) c.index-entries-i.is c.loop-i.invariant (omega arith)
+    c.lay_put-here.ensures.space c.lay_put-here.ensures.next
 
 pub returns : goal.returns
 returns g c =

@@ -4,16 +4,16 @@ use Rattle.archive.specs.Laying.{laid_over}
 use Rattle.archive.proofs.Laid.{laid_next}
 use Rattle.archive.proofs.writer.lay_seen.Goals as goal
 
-pub lay-both-requires : goal.lay-both-requires
-lay-both-requires g c =
-    let a : length c.to-bytes.result ≡ 8 = ap length c.to-bytes.ensures ∙ g.met.S.Stamp.lawful.ordered.formed.wide c.args.noted in
-    let b : length c.to-bytes-2.result ≡ 12 = ap length c.to-bytes-2.ensures ∙ g.met.R.Record.written.wide c.args.saw in
+pub lay_both-requires : goal.lay_both-requires
+lay_both-requires g c =
+    let a : length c.to_bytes.result ≡ 8 = ap length c.to_bytes.ensures ∙ g.met.S.Stamp.lawful.ordered.formed.wide c.args.noted in
+    let b : length c.to_bytes-2.result ≡ 12 = ap length c.to_bytes-2.ensures ∙ g.met.R.Record.written.wide c.args.saw in
     omega (arith, a, b)
 
 pub returns : goal.returns
 returns g c =
-    laid_next c.args.at (c.args.at + 2) (be2 c.args.number) (g.S.Stamp.kind.order.form.written c.args.noted ++ g.R.Record.kind.form.written c.args.saw) c.args.space.now c.lay.new.space c.lay-both.new.space
+    laid_next c.args.at (c.args.at + 2) (be2 c.args.number) (g.S.Stamp.kind.order.form.written c.args.noted ++ g.R.Record.kind.form.written c.args.saw) c.args.space.now c.lay.new.space c.lay_both.new.space
     (omega arith) (omega arith)
     (c.lay.ensures ∙ ap (λ xs. laid_over c.args.at xs c.args.space.now) c.two.ensures)
-    (c.lay-both.ensures ∙ ap (λ xs. laid_over (c.args.at + 2) (xs ++ c.to-bytes-2.result) c.lay.new.space) c.to-bytes.ensures
-    ∙ ap (λ xs. laid_over (c.args.at + 2) (g.S.Stamp.kind.order.form.written c.args.noted ++ xs) c.lay.new.space) c.to-bytes-2.ensures)
+    (c.lay_both.ensures ∙ ap (λ xs. laid_over (c.args.at + 2) (xs ++ c.to_bytes-2.result) c.lay.new.space) c.to_bytes.ensures
+    ∙ ap (λ xs. laid_over (c.args.at + 2) (g.S.Stamp.kind.order.form.written c.args.noted ++ xs) c.lay.new.space) c.to_bytes-2.ensures)

@@ -8,5 +8,5 @@ returns-in-None g c = record { value = search rules; law = earlier-told g.S.Stam
 pub returns-in-Less : goal.returns-in-Less
 returns-in-Less g c = record { value = search rules; law = earlier-told g.S.Stamp.kind.order g.met.S.Stamp.lawful.ordered _ _ _ (search rules) }
 
-pub returns-in-default : goal.returns-in-default
-returns-in-default g c = record { value = search rules; law = earlier-told g.S.Stamp.kind.order g.met.S.Stamp.lawful.ordered _ _ _ (search rules) }
+pub returns-in_default : goal.returns-in_default
+returns-in_default g c = record { value = search rules; law = earlier-told g.S.Stamp.kind.order g.met.S.Stamp.lawful.ordered _ _ _ (search rules) }

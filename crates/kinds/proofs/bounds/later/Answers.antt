@@ -5,5 +5,5 @@ use Rattle.kinds.proofs.bounds.later.Goals as goal
 pub returns-in-Less : goal.returns-in-Less
 returns-in-Less g c = record { value = search rules; law = later-told g.S.Stamp.kind.order g.met.S.Stamp.lawful.ordered _ _ _ (search rules) }
 
-pub returns-in-default : goal.returns-in-default
-returns-in-default g c = record { value = search rules; law = later-told g.S.Stamp.kind.order g.met.S.Stamp.lawful.ordered _ _ _ (search rules) }
+pub returns-in_default : goal.returns-in_default
+returns-in_default g c = record { value = search rules; law = later-told g.S.Stamp.kind.order g.met.S.Stamp.lawful.ordered _ _ _ (search rules) }

@@ -12,21 +12,21 @@ returns-then-word g c =
 pub loop-i-init : goal.loop-i-init
 loop-i-init g c = (read_none g.row.N c.args.word.now, length-replicate g.row.N 0)
 
-pub returns-in-err-high : goal.returns-in-err-high
-returns-in-err-high g c =
-    c.from-residual.ensures
-    ∙ sym (read_high g.row.N c.loop-i.i c.args.word.now _ c.loop-i-test.true (omega arith) (sym c.in-err-high.ensures.value))
+pub returns-in_err-high : goal.returns-in_err-high
+returns-in_err-high g c =
+    c.from_residual.ensures
+    ∙ sym (read_high g.row.N c.loop-i.i c.args.word.now _ c.loop-i-test.true (omega arith) (sym c.in_err-high.ensures.value))
     ∙ c.loop-i.invariant.0
 
-pub returns-in-err-low : goal.returns-in-err-low
-returns-in-err-low g c =
-    c.from-residual-in-err-low.ensures
-    ∙ sym (read_low g.row.N c.loop-i.i c.in-ok-high.high c.args.word.now _ c.loop-i-test.true (omega arith) (sym c.in-ok-high.ensures.value) (sym c.in-err-low.ensures.value))
+pub returns-in_err-low : goal.returns-in_err-low
+returns-in_err-low g c =
+    c.from_residual-in_err-low.ensures
+    ∙ sym (read_low g.row.N c.loop-i.i c.in_ok-high.high c.args.word.now _ c.loop-i-test.true (omega arith) (sym c.in_ok-high.ensures.value) (sym c.in_err-low.ensures.value))
     ∙ c.loop-i.invariant.0
 
 pub loop-i-preserved : goal.loop-i-preserved
 loop-i-preserved g c = (
-  sym (read_byte g.row.N c.loop-i.i c.in-ok-high.high c.in-ok-low.low c.args.word.now c.loop-i.bytes c.loop-i-test.true (omega arith) c.loop-i.invariant.1 (sym c.in-ok-high.ensures.value) (sym c.in-ok-low.ensures.value))
+  sym (read_byte g.row.N c.loop-i.i c.in_ok-high.high c.in_ok-low.low c.args.word.now c.loop-i.bytes c.loop-i-test.true (omega arith) c.loop-i.invariant.1 (sym c.in_ok-high.ensures.value) (sym c.in_ok-low.ensures.value))
       ∙ c.loop-i.invariant.0,
   search rules,
 )

@@ -4,8 +4,8 @@ use Rattle.registrar.specs.Registry.{founded_rows}
 use Rattle.registrar.proofs.Filling.{Filled, filled_more, filled_read, filled_all, length-founded, founded_at}
 use Rattle.registrar.proofs.found.new_rows.Goals as goal
 
-pub offset-bounds-rows-i : goal.offset-bounds-rows-i
-offset-bounds-rows-i g c = let l : c.loop-i.i < length c.loop-i.rows = omega arith in search rules
+pub offset_bounds-rows-i : goal.offset_bounds-rows-i
+offset_bounds-rows-i g c = let l : c.loop-i.i < length c.loop-i.rows = omega arith in search rules
 
 pub loop-i-preserved : goal.loop-i-preserved
 loop-i-preserved g c =
@@ -17,9 +17,9 @@ loop-i-preserved g c =
     let value = c.index-values-i.result in
     let same = length-founded o values old c.requires in
     let was : row ≡ get_or old i row = filled_read _ old same c.loop-i.rows i row (omega arith) c.loop-i.invariant c.index-rows-i.is in
-    let new : c.new-row-row.result ≡ founded_row o (get_or values i value) (get_or old i row) =
-    c.new-row-row.ensures ∙ (λ j. founded_row o (c.index-values-i.is j) ((sym c.index-rows-i.is ∙ was) j)) in
-    c.store.ensures ∙ filled_more (founded_rows o values old) old same c.loop-i.rows i c.new-row-row.result row (omega arith) c.loop-i.invariant (new ∙ sym (founded_at o values old i value row row (omega arith) (omega arith)))
+    let new : c.new_row-row.result ≡ founded_row o (get_or values i value) (get_or old i row) =
+    c.new_row-row.ensures ∙ (λ j. founded_row o (c.index-values-i.is j) ((sym c.index-rows-i.is ∙ was) j)) in
+    c.store.ensures ∙ filled_more (founded_rows o values old) old same c.loop-i.rows i c.new_row-row.result row (omega arith) c.loop-i.invariant (new ∙ sym (founded_at o values old i value row row (omega arith) (omega arith)))
 
 pub returns : goal.returns
 returns g c =

@@ -8,10 +8,10 @@ use Rattle.schedule_text.proofs.parse.parse_form.Goals as goal
 pub returns-then-words-ne2 : goal.returns-then-words-ne2
 returns-then-words-ne2 c = sym (form_wrong c.args.words.now c.if-words-ne2.true)
 
-pub returns-in-err-parse-value : goal.returns-in-err-parse-value
-returns-in-err-parse-value c =
-    let p = err_from_is_err_and c.from-residual.result c.from-residual.ensures.1 in
-    p.1 ∙ ap Err p.2 ∙ ap (in_command Form) c.in-err-parse-value.ensures ∙ sym (form_words c.args.words.now _ c.if-words-ne2.false)
+pub returns-in_err-parse_value : goal.returns-in_err-parse_value
+returns-in_err-parse_value c =
+    let p = err_from_is_err_and c.from_residual.result c.from_residual.ensures.1 in
+    p.1 ∙ ap Err p.2 ∙ ap (in_command Form) c.in_err-parse_value.ensures ∙ sym (form_words c.args.words.now _ c.if-words-ne2.false)
 
 pub returns : goal.returns
-returns c = ap (in_command Form) c.in-ok-parse-value.ensures ∙ sym (form_words c.args.words.now _ c.if-words-ne2.false)
+returns c = ap (in_command Form) c.in_ok-parse_value.ensures ∙ sym (form_words c.args.words.now _ c.if-words-ne2.false)

@@ -8,10 +8,10 @@ use Rattle.schedule_text.proofs.parse.parse_read.Goals as goal
 pub returns-then-words-ne2 : goal.returns-then-words-ne2
 returns-then-words-ne2 c = sym (read_wrong c.args.words.now c.if-words-ne2.true)
 
-pub returns-in-err-parse-written : goal.returns-in-err-parse-written
-returns-in-err-parse-written c =
-    let p = err_from_is_err_and c.from-residual.result c.from-residual.ensures.1 in
-    p.1 ∙ ap Err p.2 ∙ ap (in_command Read) c.in-err-parse-written.ensures ∙ sym (read_words c.args.words.now _ c.if-words-ne2.false)
+pub returns-in_err-parse_written : goal.returns-in_err-parse_written
+returns-in_err-parse_written c =
+    let p = err_from_is_err_and c.from_residual.result c.from_residual.ensures.1 in
+    p.1 ∙ ap Err p.2 ∙ ap (in_command Read) c.in_err-parse_written.ensures ∙ sym (read_words c.args.words.now _ c.if-words-ne2.false)
 
 pub returns : goal.returns
-returns c = ap (in_command Read) c.in-ok-parse-written.ensures ∙ sym (read_words c.args.words.now _ c.if-words-ne2.false)
+returns c = ap (in_command Read) c.in_ok-parse_written.ensures ∙ sym (read_words c.args.words.now _ c.if-words-ne2.false)

@@ -9,7 +9,7 @@ pub loop-e-preserved : goal.loop-e-preserved
 loop-e-preserved g c =
     let o = g.S.Stamp.kind.order in
     let of = reads c.args.rows.now in
-    ap (lower_by o of (drop (c.loop-e.e-index + 1) c.args.entries.now)) c.lower-one-bound.ensures
+    ap (lower_by o of (drop (c.loop-e.e-index + 1) c.args.entries.now)) c.lower_one-bound.ensures
     ∙ sym (ap (λ es. lower_by o of es c.loop-e.bound) (left_read c.args.entries.now c.loop-e.e-index c.e-item.result c.loop-e-test.true c.e-item.is))
     ∙ c.loop-e.invariant
 

@@ -5,11 +5,11 @@ use Rattle.station.specs.Heard.{firsts}
 use Rattle.station.proofs.Back.{laid-map, take_within}
 use Rattle.station.proofs.sheet.close.Goals as goal
 
-pub offset-bounds-sheet-i : goal.offset-bounds-sheet-i
-offset-bounds-sheet-i g c = let h : c.loop-i.i < length c.args.sheet.now = omega arith in search rules
+pub offset_bounds-sheet-i : goal.offset_bounds-sheet-i
+offset_bounds-sheet-i g c = let h : c.loop-i.i < length c.args.sheet.now = omega arith in search rules
 
-pub offset-bounds-sheet-i-in-loop-i : goal.offset-bounds-sheet-i-in-loop-i
-offset-bounds-sheet-i-in-loop-i g c = let h : c.loop-i.i < length c.args.sheet.now = omega arith in search rules
+pub offset_bounds-sheet-i-in-loop-i : goal.offset_bounds-sheet-i-in-loop-i
+offset_bounds-sheet-i-in-loop-i g c = let h : c.loop-i.i < length c.args.sheet.now = omega arith in search rules
 
 pub loop-i-preserved : goal.loop-i-preserved
 loop-i-preserved g c =

@@ -14,13 +14,13 @@ loop-byte-preserved g c plain =
     let bytes = c.args.self.now.0.now in
     let i = c.loop-byte.byte-index in
     let start = c.loop-byte.invariant plain in
-    let high = c.in-ok-write-char.ensures.writes start.plain (refl {a = true}) in
-    let low = c.in-ok-write-char-2.ensures.writes high.plain (refl {a = true}) in
+    let high = c.in_ok-write_char.ensures.writes start.plain (refl {a = true}) in
+    let low = c.in_ok-write_char-2.ensures.writes high.plain (refl {a = true}) in
     let small : get_or bytes i 0 < 256 = omega arith in
-    let told = hex_one bytes i c.digit-char.result c.digit-char-in-loop-byte.result c.loop-byte-test.true c.digit-char.ensures c.digit-char-in-loop-byte.ensures small in
-    has_written_of_eq took c.args.f.now _ _ c.write-char-in-loop-byte.new.self told
-    (has_written_append took c.args.f.now _ c.write-char.new.self _ c.write-char-in-loop-byte.new.self
-    (has_written_append took c.args.f.now _ c.loop-byte.f _ c.write-char.new.self start high) low)
+    let told = hex_one bytes i c.digit_char.result c.digit_char-in-loop-byte.result c.loop-byte-test.true c.digit_char.ensures c.digit_char-in-loop-byte.ensures small in
+    has_written_of_eq took c.args.f.now _ _ c.write_char-in-loop-byte.new.self told
+    (has_written_append took c.args.f.now _ c.write_char.new.self _ c.write_char-in-loop-byte.new.self
+    (has_written_append took c.args.f.now _ c.loop-byte.f _ c.write_char.new.self start high) low)
 
 pub returns-clause-writes : goal.returns-clause-writes
 returns-clause-writes g c plain ok =

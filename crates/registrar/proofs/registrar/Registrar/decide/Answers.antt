@@ -6,8 +6,8 @@ use Rattle.registrar.proofs.registrar.Registrar.decide.Goals as goal
 pub bounds-queue-place : goal.bounds-queue-place
 bounds-queue-place g c = let fits = c.if-not-fit.ensures.lengths refl in omega arith
 
-pub offset-bounds-queue-place : goal.offset-bounds-queue-place
-offset-bounds-queue-place g c =
+pub offset_bounds-queue-place : goal.offset_bounds-queue-place
+offset_bounds-queue-place g c =
     let fits = c.if-not-fit.ensures.lengths refl in
     let l : c.args.self.now.oldest % 16 < length c.args.tables.queue.now = omega arith in
     search rules
@@ -33,18 +33,18 @@ returns-then-self-ge32 g c =
     (sym c.if-not-fit.ensures.told) c.if-self-eq0.false (c.if-not-fit.ensures.lengths refl).queue c.index-queue-place.is
     (c.front-entries.ensures ∙ ap (take c.index-queue-place.result.count) c.block.ensures) (sym c.if-beyond.ensures) c.if-self-heads.false c.if-self-ge32.true
 
-pub carry-out-added-requires : goal.carry-out-added-requires
-carry-out-added-requires g c =
+pub carry_out-added-requires : goal.carry_out-added-requires
+carry_out-added-requires g c =
     let fits = c.if-not-fit.ensures.lengths refl in
     let b = ap length c.block.ensures ∙ length-take 16 _ in
     let n = ap length c.front-entries.ensures ∙ length-take c.index-queue-place.result.count c.block.result.now in
     record { room = c.if-self-heads.false; few = fits.heads; lines = fits.lines; entries = omega arith }
 
-pub overflow-add-self-3 : goal.overflow-add-self-3
-overflow-add-self-3 g c =
+pub overflow_add-self-3 : goal.overflow_add-self-3
+overflow_add-self-3 g c =
     let fits = c.if-not-fit.ensures.lengths refl in
     let n = by_stamp_below c.verdict-verdict.result in
-    let m = c.carry-out-added.ensures.count in
+    let m = c.carry_out-added.ensures.count in
     omega arith
 
 pub returns : goal.returns
@@ -52,5 +52,5 @@ returns g c =
     decide-whole g.S.Stamp.kind (registry_in c.args.self.now c.args.tables) c.index-queue-place.result c.front-entries.result.now
     (sym c.if-not-fit.ensures.told) c.if-self-eq0.false (c.if-not-fit.ensures.lengths refl).queue c.index-queue-place.is
     (c.front-entries.ensures ∙ ap (take c.index-queue-place.result.count) c.block.ensures) (sym c.if-beyond.ensures) c.if-self-heads.false c.if-self-ge32.false
-    c.verdict-verdict.ensures c.carry-out-added.ensures.count (own_decided c.args.self.now c.carry-out-added.result c.min.ensures)
-    c.carry-out-added.ensures.rows c.carry-out-added.ensures.firsts c.carry-out-added.ensures.heads c.carry-out-added.ensures.lines c.store.ensures
+    c.verdict-verdict.ensures c.carry_out-added.ensures.count (own_decided c.args.self.now c.carry_out-added.result c.min.ensures)
+    c.carry_out-added.ensures.rows c.carry_out-added.ensures.firsts c.carry_out-added.ensures.heads c.carry_out-added.ensures.lines c.store.ensures

@@ -2,14 +2,14 @@ use Rattle.std.proofs.Common.{replicate, None, sym, refl, ap, ◌∙◌}
 use Rattle.registrar.proofs.Wholes.{found-whole}
 use Rattle.registrar.proofs.registrar.Registrar.found.Goals as goal
 
-pub new-rows-requires : goal.new-rows-requires
-new-rows-requires g c = (c.if-not-fit.ensures.lengths refl).rows
+pub new_rows-requires : goal.new_rows-requires
+new_rows-requires g c = (c.if-not-fit.ensures.lengths refl).rows
 
-pub copy-from-slice-requires : goal.copy-from-slice-requires
-copy-from-slice-requires g c = (c.if-not-fit.ensures.lengths refl).opening
+pub copy_from_slice-requires : goal.copy_from_slice-requires
+copy_from_slice-requires g c = (c.if-not-fit.ensures.lengths refl).opening
 
 pub returns : goal.returns
 returns g c =
     let fits = c.if-not-fit.ensures.lengths refl in
     found-whole g.S.Stamp.kind.order c.args.values.now _ (sym c.if-not-fit.ensures.told)
-    c.new-rows.ensures (c.fill.ensures ∙ ap (λ n. replicate n None) fits.firsts) c.copy-from-slice.ensures.after
+    c.new_rows.ensures (c.fill.ensures ∙ ap (λ n. replicate n None) fits.firsts) c.copy_from_slice.ensures.after

@@ -13,8 +13,8 @@ returns-then-self g c =
     publish-ended (registry_in c.args.self.now c.args.tables) (image_with c.args.head.now c.args.rows.now c.args.outcomes.now)
     (sym c.if-not-fit.ensures.told) (sym c.if-not-fits.ensures.told) (omega arith)
 
-pub show-all-requires : goal.show-all-requires
-show-all-requires g c =
+pub show_all-requires : goal.show_all-requires
+show_all-requires g c =
     let fits = c.if-not-fit.ensures.lengths refl in
     record { rows = (c.if-not-fits.ensures.lengths refl).0 ∙ sym fits.rows; firsts = fits.firsts ∙ sym fits.rows }
 
@@ -29,4 +29,4 @@ pub returns : goal.returns
 returns g c =
     publish-whole (registry_in c.args.self.now c.args.tables) (image_with c.args.head.now c.args.rows.now c.args.outcomes.now)
     (sym c.if-not-fit.ensures.told) (sym c.if-not-fits.ensures.told) (omega arith)
-    c.show-all.ensures c.fill.ensures c.front-news.ensures c.lay.ensures
+    c.show_all.ensures c.fill.ensures c.front-news.ensures c.lay.ensures

@@ -17,4 +17,4 @@ pub returns : goal.returns
 returns g c =
     submit-whole (registry_in c.args.self.now c.args.tables) c.args.job c.args.sheet.now (sym c.if-not-fit.ensures.told)
     c.if-sheet-ne16.false (sym c.if-shut.ensures) c.front-entries.ensures (sym c.if-beyond.ensures) (omega arith) (omega arith)
-    c.new.ensures c.next-place-place.ensures.place c.store.ensures c.lay.ensures
+    c.new.ensures c.next_place-place.ensures.place c.store.ensures c.lay.ensures

@@ -7,5 +7,5 @@ pub returns : goal.returns
 returns g c =
     let own = c.args.self.registrar in
     let kept = c.args.self.store in
-    let same : with_tables own c.as-slice.result.now c.as-slice-2.result.now c.as-slice-3.result.now c.as-slice-4.result.now c.as-slice-5.result.now c.as-slice-6.result.now c.as-slice-7.result.now c.as-slice-8.result.now ≡ with_tables own (vec_items kept.rows) (vec_items kept.firsts) (vec_items kept.opening) (vec_items kept.queue) (vec_items kept.queued) (vec_items kept.outcomes) (vec_items kept.heads) (vec_items kept.lines) = cc in
-    record { jobs = c.hand-over.ensures.jobs; law = subst (AccountedFor g.S.Stamp.kind) same c.hand-over.ensures.law }
+    let same : with_tables own c.as_slice.result.now c.as_slice-2.result.now c.as_slice-3.result.now c.as_slice-4.result.now c.as_slice-5.result.now c.as_slice-6.result.now c.as_slice-7.result.now c.as_slice-8.result.now ≡ with_tables own (vec_items kept.rows) (vec_items kept.firsts) (vec_items kept.opening) (vec_items kept.queue) (vec_items kept.queued) (vec_items kept.outcomes) (vec_items kept.heads) (vec_items kept.lines) = cc in
+    record { jobs = c.hand_over.ensures.jobs; law = subst (AccountedFor g.S.Stamp.kind) same c.hand_over.ensures.law }

@@ -4,12 +4,12 @@ use Rattle.station.specs.Heard.{station, heard}
 use Rattle.station.proofs.Calls.{stops, looks}
 use Rattle.station.proofs.job.Job.look.Goals as goal
 
-pub returns-in-err-row : goal.returns-in-err-row
-returns-in-err-row g c =
-    let p = err_from_is_err_and c.from-residual.result c.from-residual.ensures.1 in
-    rw (p.1, p.2) (stops (station c.args.self.now c.args.sheet.now) (heard c.args.image) c.args.number _ _ c.in-err-row.ensures)
+pub returns-in_err-row : goal.returns-in_err-row
+returns-in_err-row g c =
+    let p = err_from_is_err_and c.from_residual.result c.from_residual.ensures.1 in
+    rw (p.1, p.2) (stops (station c.args.self.now c.args.sheet.now) (heard c.args.image) c.args.number _ _ c.in_err-row.ensures)
 
 pub returns : goal.returns
 returns g c =
-    c.look-at.ensures
-    ∙ looks g.S.Stamp.kind (station c.args.self.now c.args.sheet.now) (heard c.args.image) c.args.number c.in-ok-row.row c.in-ok-row.ensures
+    c.look_at.ensures
+    ∙ looks g.S.Stamp.kind (station c.args.self.now c.args.sheet.now) (heard c.args.image) c.args.number c.in_ok-row.row c.in_ok-row.ensures

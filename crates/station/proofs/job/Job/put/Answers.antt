@@ -4,12 +4,12 @@ use Rattle.station.specs.Heard.{station, heard}
 use Rattle.station.proofs.Calls.{stops, puts}
 use Rattle.station.proofs.job.Job.put.Goals as goal
 
-pub returns-in-err-row : goal.returns-in-err-row
-returns-in-err-row g c =
-    let p = err_from_is_err_and c.from-residual.result c.from-residual.ensures.1 in
-    rw (p.1, p.2) (stops (station c.args.self.now c.args.sheet.now) (heard c.args.image) c.args.number _ _ c.in-err-row.ensures)
+pub returns-in_err-row : goal.returns-in_err-row
+returns-in_err-row g c =
+    let p = err_from_is_err_and c.from_residual.result c.from_residual.ensures.1 in
+    rw (p.1, p.2) (stops (station c.args.self.now c.args.sheet.now) (heard c.args.image) c.args.number _ _ c.in_err-row.ensures)
 
 pub returns : goal.returns
 returns g c =
     c.put_at.ensures
-    ∙ puts g.S.Stamp.kind (station c.args.self.now c.args.sheet.now) (heard c.args.image) c.args.number c.in-ok-row.row c.in-ok-row.ensures c.args.value
+    ∙ puts g.S.Stamp.kind (station c.args.self.now c.args.sheet.now) (heard c.args.image) c.args.number c.in_ok-row.row c.in_ok-row.ensures c.args.value
