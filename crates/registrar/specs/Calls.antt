@@ -1,7 +1,7 @@
 -- What a call leaves, put together from the registrar's numbers and the tables that were handed in.
 use Rattle.std.specs.Prelude.{◌≡◌, ℕ, suc, ◌*◌, ◌≤◌, cond, List, [], ◌∷◌, length, Ok, Err, Option, Result}
 use Rattle.kinds.specs.Stamps.{Order}
-use Rattle.std.specs.Borrow.{Bor}
+use Rattle.std.specs.Borrow.{MutBor}
 use Rattle.model.specs.declared.entry.Entry.{Entry}
 use Rattle.model.specs.declared.row.Row.{Row}
 use Rattle.model.specs.declared.verdict.Outcome.{Outcome}
@@ -24,8 +24,8 @@ use Rattle.registrar.specs.Registry.{Registry, Settled, Published, with_own}
 -- the eight tables of a bundle at a call's return, in their order
 abbrev pub Left : Type 0 → Type 0 → Type 0
 Left S R =
-    Bor (List (Row S R)) × (Bor (List (Option S)) × (Bor (List R) × (Bor (List (Submission S)) × (Bor (List (Entry S R)) × (Bor (List (Outcome S))
-    × (Bor (List (Head S)) × (Bor (List (Entry S R)) × Unit {0})))))))
+    MutBor (List (Row S R)) × (MutBor (List (Option S)) × (MutBor (List R) × (MutBor (List (Submission S)) × (MutBor (List (Entry S R)) × (MutBor (List (Outcome S))
+    × (MutBor (List (Head S)) × (MutBor (List (Entry S R)) × Unit {0})))))))
 
 module _ {S R : Type 0} where
   -- the registry of a registrar's numbers and eight tables

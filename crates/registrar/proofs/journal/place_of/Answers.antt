@@ -6,13 +6,13 @@ use Rattle.registrar.proofs.journal.place_of.Goals as goal
 pub returns-then-before : goal.returns-then-before
 returns-then-before g c =
     record {
-      place = sym (ahead-ends g.S.Stamp.kind.order c.args.stamp c.args.heads.now c.args.n c.loop-i.i c.index-heads-i.result (omega arith) (omega arith) (sym c.if_before.ensures) c.loop-i.invariant);
+      place = sym (ahead-ends g.S.Stamp.kind.order c.args.stamp c.args.heads.now c.args.n c.loop-i.i c.index-heads-i.result (omega arith) (omega arith) (sym c.if-before.ensures) c.loop-i.invariant);
       within = omega arith;
     }
 
 pub loop-i-preserved : goal.loop-i-preserved
 loop-i-preserved g c =
-    ahead_more g.S.Stamp.kind.order c.args.stamp c.args.heads.now c.loop-i.i c.index-heads-i.result (omega arith) (sym c.if_before.ensures) c.loop-i.invariant
+    ahead_more g.S.Stamp.kind.order c.args.stamp c.args.heads.now c.loop-i.i c.index-heads-i.result (omega arith) (sym c.if-before.ensures) c.loop-i.invariant
 
 pub returns : goal.returns
 returns g c =

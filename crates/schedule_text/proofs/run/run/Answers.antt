@@ -17,7 +17,7 @@ loop-rest-preserved c =
     let pos : 0 < length c.loop-rest.rest.now = omega arith in
     let shorter = c.first_line.ensures.shorter pos in
     let is = sym c.in_ok-read_line.ensures ∙ c.in-Call.is in
-    let added = c.in_ok-push_str.ensures.bytes ∙ ap (λ l. string_bytes c.loop-rest.text ++ l) (c.as_str.ensures.value ∙ c.in_ok-said.ensures) in (
+    let added = c.in_ok-push_str-in-Call.ensures.bytes ∙ ap (λ l. string_bytes c.loop-rest.text ++ l) (c.as_str.ensures.value ∙ c.in_ok-said-in-Call.ensures) in (
       called_line (string_bytes c.loop-rest.text) (string_bytes c.push_str.new.self) (c.loop-rest.line + 1) c.loop-rest.rest.now _ c.first_line.result.1.now c.in-Call.command (c.first_line.ensures.lines pos) is added
           ∙ c.loop-rest.invariant.0,
       omega arith,
