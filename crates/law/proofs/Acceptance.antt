@@ -1,7 +1,7 @@
 -- What an acceptance shows, and that rows, accepted jobs and waiting jobs keep what they keep.
 use Rattle.std.proofs.Common.{◌≡◌, ℕ, ◌<◌, ◌≤◌, Bool, true, false, cond, not, ◌&&◌, ◌||◌, ◌⊎◌, List, [], ◌∷◌, ◌++◌, map, length, take, Some, None, Option, sym, refl, ap, ◌∙◌, subst, inl, inr, ⊎_elim, arith}
 use Rattle.std.specs.Option.{option_map}
-use Rattle.std.specs.List.{AllByRecursion as All, slice_get}
+use Rattle.std.specs.List.{AllByRecursion, slice_get}
 use Rattle.std.proofs.lemmas.Bool.{false≢true, cases_Bool}
 use Rattle.std.proofs.ByRecursion.{All-weaker}
 use Rattle.std.proofs.lemmas.Option.{slice_get_past}
@@ -127,7 +127,7 @@ module _ {S R : Type 0} (o : Order S) (values : List R) (jobs : List (AcceptedJo
     pub reads : (d : AcceptedJob S R) → In d jobs → (l : Look S R) → In l d.looks → Le o d.stamp (read_at o rows l.number)
 
 -- a job that is accepted fits
-module _ {S R : Type 0} (k : Kind S) (laws : Lawful k) (values : List R) (jobs : List (AcceptedJob S R)) (last : ℕ → Option (Stood S R)) (rows : List (Row S R)) (firsts : List (Option S)) (size : length rows ≡ length values) (ok : RowsOk k.order values jobs last rows firsts) (shown : ℕ → Option (Stood S R)) (w : Waiting S R) (entries-ok : All (EntryOk k.order values jobs (top_at k.order rows) shown w.lower w.upper) w.entries) (inside : All (λ (e : Entry S R). e.number < length values) w.entries) (s : S) (p : Picked k (lower_bound k.order rows w.entries w.lower) (upper_bound k.order rows w.entries w.upper) s) where
+module _ {S R : Type 0} (k : Kind S) (laws : Lawful k) (values : List R) (jobs : List (AcceptedJob S R)) (last : ℕ → Option (Stood S R)) (rows : List (Row S R)) (firsts : List (Option S)) (size : length rows ≡ length values) (ok : RowsOk k.order values jobs last rows firsts) (shown : ℕ → Option (Stood S R)) (w : Waiting S R) (entries-ok : AllByRecursion (EntryOk k.order values jobs (top_at k.order rows) shown w.lower w.upper) w.entries) (inside : AllByRecursion (λ (e : Entry S R). e.number < length values) w.entries) (s : S) (p : Picked k (lower_bound k.order rows w.entries w.lower) (upper_bound k.order rows w.entries w.upper) s) where
   above : (a : S) → Le k.order a (lower_bound k.order rows w.entries w.lower) → Lt k.order a s
   above a l = le_lt_trans k.order laws.ordered a (lower_bound k.order rows w.entries w.lower) s l (pick-after k laws (lower_bound k.order rows w.entries w.lower) p.upper s p.picks)
 

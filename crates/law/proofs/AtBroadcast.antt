@@ -1,7 +1,7 @@
 -- Publish keeps what every run keeps.
 use Rattle.std.proofs.Common.{◌≡◌, ℕ, zero, suc, ◌+◌, ◌<◌, ◌≤◌, Bool, true, false, ◌⊎◌, List, [], ◌∷◌, ◌++◌, map, length, take, replicate, Some, None, Option, sym, refl, ap, ◌∙◌, subst, inl, inr, ⊎_elim, arith, length-append}
 use Rattle.std.specs.Option.{option_map}
-use Rattle.std.specs.List.{AllByRecursion as All, slice_get}
+use Rattle.std.specs.List.{AllByRecursion, slice_get}
 use Rattle.std.proofs.lemmas.Bool.{cases_eq}
 use Rattle.std.proofs.ByRecursion.{All-weaker}
 use Rattle.kinds.specs.Stamps.{Order, Kind, Lawful}
@@ -93,7 +93,7 @@ module _ {S R : Type 0} (k : Kind S) (laws : Lawful k) (values : List R) (d : De
       (cases_eq n (length d.images))
 
   -- what an entry keeps, it keeps where the image shows the same
-  entries-shown : (top : ℕ → S) (old new : ℕ → Option (Stood S R)) (lower : S) (upper : Option S) (es : List (Entry S R)) → ((x : ℕ) → new x ≡ old x) → All (EntryOk k.order values b.accepted top old lower upper) es → All (EntryOk k.order values b.accepted top new lower upper) es
+  entries-shown : (top : ℕ → S) (old new : ℕ → Option (Stood S R)) (lower : S) (upper : Option S) (es : List (Entry S R)) → ((x : ℕ) → new x ≡ old x) → AllByRecursion (EntryOk k.order values b.accepted top old lower upper) es → AllByRecursion (EntryOk k.order values b.accepted top new lower upper) es
   entries-shown top old new lower upper es q a =
       All-weaker (EntryOk k.order values b.accepted top old lower upper) (EntryOk k.order values b.accepted top new lower upper)
       (λ e z s. let c = z s in record { origin = c.origin; low = c.low; stays = λ y. q e.number ∙ c.stays y; shuts = c.shuts }) es a

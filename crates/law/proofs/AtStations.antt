@@ -1,7 +1,7 @@
 -- Look, put and tune keep what a job keeps, and write the lines that the daybook writes.
 use Rattle.std.proofs.Common.{◌≡◌, ℕ, suc, ◌+◌, ◌<◌, ◌≤◌, Bool, true, false, cond, not, ◌&&◌, ◌||◌, eqb, leb, ◌≢◌, ◌⊎◌, List, [], ◌∷◌, ◌++◌, map, length, is_some, Some, None, Ok, Err, Option, Result, sym, refl, ap, ◌∙◌, subst, inl, inr, ⊎_elim, arith, length-append}
 use Rattle.std.specs.Option.{option_map}
-use Rattle.std.specs.List.{AllByRecursion as All, slice_get}
+use Rattle.std.specs.List.{AllByRecursion, slice_get}
 use Rattle.std.proofs.lemmas.Bool.{eqb-true, leb-false, not-false, true≢false, false≢true}
 use Rattle.std.proofs.ByRecursion.{All-push, All-map}
 use Rattle.kinds.specs.Stamps.{Order, Ordered, Kind, Lawful}

@@ -2,7 +2,7 @@
 use Rattle.std.proofs.Common.{◌≡◌, Bool, true, false, cond, not, ◌&&◌, List, [], ◌∷◌, ◌++◌, filter, sym, refl, ap, ◌∙◌}
 use mathlib.Core.List.Permᴰ
 use mathlib.Core.List.{Permᴰ}
-use Rattle.std.specs.List.{AllByRecursion as All}
+use Rattle.std.specs.List.{AllByRecursion}
 use Rattle.std.proofs.lemmas.List.Elements.{filter-append}
 use Rattle.std.proofs.lemmas.List.{append-nil}
 use Rattle.std.proofs.lemmas.Bool.{and_left}
@@ -18,7 +18,7 @@ push_front : {A : Type 0} (xs : List A) (a : A) → Permᴰ (xs ++ (a ∷ [])) (
 push_front [] a = Permᴰ.refl (a ∷ [])
 push_front (x ∷ xs) a = Permᴰ.trans (Permᴰ.cons refl (push_front xs a)) (Permᴰ.swap refl refl)
 
-none_kept : {A : Type 0} (q : A → Bool) (xs : List A) → All (λ x. q x ≡ false) xs → filter q xs ≡ []
+none_kept : {A : Type 0} (q : A → Bool) (xs : List A) → AllByRecursion (λ x. q x ≡ false) xs → filter q xs ≡ []
 none_kept q [] h = refl
 none_kept q (x ∷ xs) h = ap (λ b. cond b (x ∷ filter q xs) (filter q xs)) h.0 ∙ none_kept q xs h.1
 
@@ -31,11 +31,11 @@ module _ {S R : Type 0} (o : Order S) (laws : Ordered o) (d : AcceptedJob S R) w
       by true h = Permᴰ.refl (d ∷ e ∷ es)
       by false h = Permᴰ.trans (Permᴰ.swap refl refl) (Permᴰ.cons refl h)
 
-  enter_all : (P : AcceptedJob S R → Type 0) (js : List (AcceptedJob S R)) → P d → All P js → All P (enter_job o d js)
+  enter_all : (P : AcceptedJob S R → Type 0) (js : List (AcceptedJob S R)) → P d → AllByRecursion P js → AllByRecursion P (enter_job o d js)
   enter_all P [] p h = (p, tt)
   enter_all P (e ∷ es) p h = by (o.before d.stamp e.stamp) (enter_all P es p h.1)
     where
-      by : (t : Bool) → All P (enter_job o d es) → All P (cond t (d ∷ e ∷ es) (e ∷ enter_job o d es))
+      by : (t : Bool) → AllByRecursion P (enter_job o d es) → AllByRecursion P (cond t (d ∷ e ∷ es) (e ∷ enter_job o d es))
       by true k = (p, h)
       by false k = (h.0, k)
 

@@ -1,7 +1,7 @@
 -- One accepted job more: the tables after it keep what they keep, and the jobs that wait last.
 use Rattle.std.proofs.Common.{◌≡◌, ℕ, ◌<◌, Bool, true, false, ◌⊎◌, List, [], ◌∷◌, ◌++◌, length, Some, None, Option, sym, refl, ap, ◌∙◌, subst, inl, inr, ⊎_elim, arith}
 use Rattle.std.specs.Option.{option_map}
-use Rattle.std.specs.List.{AllByRecursion as All, slice_get}
+use Rattle.std.specs.List.{AllByRecursion, slice_get}
 use Rattle.std.proofs.ByRecursion.{All-weaker}
 use Rattle.kinds.specs.Stamps.{Order, Ordered}
 use Rattle.model.specs.declared.entry.Entry.{Entry}
@@ -72,7 +72,7 @@ module _ {S R : Type 0} (o : Order S) (laws : Ordered o) (values : List R) (jobs
 
 -- what a job noted lasts while the writes go on
 module _ {S R : Type 0} (o : Order S) (laws : Ordered o) (values : List R) (jobs more : List (AcceptedJob S R)) (top top' : ℕ → S) (keeps : (d : AcceptedJob S R) → In d jobs → In d more) (g : (x : ℕ) → Grown o jobs more x (top x) (top' x)) where
-  pub entries-last : (shown : ℕ → Option (Stood S R)) (lower : S) (upper : Option S) (es : List (Entry S R)) → All (EntryOk o values jobs top shown lower upper) es → All (EntryOk o values more top' shown lower upper) es
+  pub entries-last : (shown : ℕ → Option (Stood S R)) (lower : S) (upper : Option S) (es : List (Entry S R)) → AllByRecursion (EntryOk o values jobs top shown lower upper) es → AllByRecursion (EntryOk o values more top' shown lower upper) es
   entries-last shown lower upper es h =
       All-weaker (EntryOk o values jobs top shown lower upper) (EntryOk o values more top' shown lower upper)
       (λ e q s. let z = q s in

@@ -1,7 +1,7 @@
 -- What every run keeps between the registrar, its images, the jobs and the daybook.
 use Rattle.std.proofs.Common.{◌≡◌, ℕ, zero, suc, ◌+◌, ◌<◌, ◌≤◌, Bool, true, false, cond, ◌&&◌, eqb, List, [], ◌∷◌, ◌++◌, map, length, take, Some, None, Option, sym, refl, ap, ◌∙◌, subst, arith}
 use Rattle.std.specs.Option.{option_map}
-use Rattle.std.specs.List.{AllByRecursion as All, slice_get}
+use Rattle.std.specs.List.{AllByRecursion, slice_get}
 use Rattle.std.proofs.lemmas.Bool.{eqb-true, eq-eqb}
 use Rattle.kinds.specs.Stamps.{Order, Ordered, Kind, Lawful}
 use Rattle.model.specs.declared.entry.Entry.{Entry}
@@ -47,9 +47,9 @@ module _ {S R : Type 0} (k : Kind S) (values : List R) where
   pub record WaitingOk (jobs : List (AcceptedJob S R)) (top : ℕ → S) (images : List (Image S R)) (cycle : ℕ) (w : Waiting S R) : Type 0 where
     pub image : ℕ
     pub stands : image ≤ cycle
-    pub entries : All (EntryOk k.order values jobs top (shown_in k.order values images image) w.lower w.upper) w.entries
+    pub entries : AllByRecursion (EntryOk k.order values jobs top (shown_in k.order values images image) w.lower w.upper) w.entries
     pub distinct : Distinct w.entries
-    pub inside : All (λ (e : Entry S R). e.number < length values) w.entries
+    pub inside : AllByRecursion (λ (e : Entry S R). e.number < length values) w.entries
     pub few : length w.entries ≤ 16
 
   pub record StationOk (jobs : List (AcceptedJob S R)) (top : ℕ → S) (images : List (Image S R)) (cycle : ℕ) (t : Station S R) : Type 0 where

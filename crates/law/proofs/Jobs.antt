@@ -1,7 +1,7 @@
 -- What a job keeps, and that look, put and tune keep it.
 use Rattle.std.proofs.Common.{◌≡◌, ℕ, suc, ◌+◌, ◌<◌, ◌≤◌, Bool, true, false, cond, not, ◌&&◌, ◌||◌, eqb, leb, ◌≢◌, ◌⊎◌, List, [], ◌∷◌, ◌++◌, map, length, is_some, Some, None, Ok, Err, Option, Result, sym, refl, ap, ◌∙◌, subst, inl, inr, ⊎_elim, arith, length-append}
 use Rattle.std.specs.Option.{option_map}
-use Rattle.std.specs.List.{AllByRecursion as All, slice_get}
+use Rattle.std.specs.List.{AllByRecursion, slice_get}
 use Rattle.std.proofs.lemmas.Bool.{eqb-true, leb-false, not-false, true≢false, false≢true}
 use Rattle.std.proofs.ByRecursion.{All-push, All-weaker, All-map}
 use Rattle.kinds.specs.Stamps.{Order, Ordered, Kind, Lawful}
@@ -58,34 +58,34 @@ HasPlace k w =
 -- shown n x: what image n shows at x, where image 0 is the opening
 pub record JobOk {S R : Type 0} (k : Kind S) (values : List R) (jobs : List (AcceptedJob S R)) (top : ℕ → S) (shown : ℕ → ℕ → Option (Stood S R)) (cycle : ℕ) (w : Work S R) : Type 0 where
   pub stands : w.image ≤ cycle
-  pub entries : All (EntryOk k.order values jobs top (shown w.image) w.lower w.upper) w.entries
+  pub entries : AllByRecursion (EntryOk k.order values jobs top (shown w.image) w.lower w.upper) w.entries
   pub distinct : Distinct w.entries
-  pub inside : All (λ (e : Entry S R). e.number < length values) w.entries
+  pub inside : AllByRecursion (λ (e : Entry S R). e.number < length values) w.entries
   pub few : length w.entries ≤ 16
   pub place : HasPlace k w
 
 module _ {S R : Type 0} (o : Order S) (laws : Ordered o) (values : List R) (jobs : List (AcceptedJob S R)) (top : ℕ → S) where
-  pub sheet-lower : (shown : ℕ → Option (Stood S R)) (lower lower' : S) (upper : Option S) → Le o lower lower' → (es : List (Entry S R)) → All (EntryOk o values jobs top shown lower upper) es → All (EntryOk o values jobs top shown lower' upper) es
+  pub sheet-lower : (shown : ℕ → Option (Stood S R)) (lower lower' : S) (upper : Option S) → Le o lower lower' → (es : List (Entry S R)) → AllByRecursion (EntryOk o values jobs top shown lower upper) es → AllByRecursion (EntryOk o values jobs top shown lower' upper) es
   sheet-lower shown lower lower' upper l es h =
       All-weaker (EntryOk o values jobs top shown lower upper) (EntryOk o values jobs top shown lower' upper)
       (λ e q s. let k = q s in record { origin = k.origin; low = le_trans o laws _ lower lower' k.low l; stays = k.stays; shuts = k.shuts }) es h
 
   -- a put changes no noted look
-  pub sheet-put_on : (shown : ℕ → Option (Stood S R)) (lower : S) (upper : Option S) (x : ℕ) (v : R) (es : List (Entry S R)) → All (EntryOk o values jobs top shown lower upper) es → All (EntryOk o values jobs top shown lower upper) (put_on x v es)
+  pub sheet-put_on : (shown : ℕ → Option (Stood S R)) (lower : S) (upper : Option S) (x : ℕ) (v : R) (es : List (Entry S R)) → AllByRecursion (EntryOk o values jobs top shown lower upper) es → AllByRecursion (EntryOk o values jobs top shown lower upper) (put_on x v es)
   sheet-put_on shown lower upper x v [] h = tt
   sheet-put_on shown lower upper x v (e ∷ es) h = by (eqb x e.number) (sheet-put_on shown lower upper x v es h.1)
     where
-      by : (t : Bool) → All (EntryOk o values jobs top shown lower upper) (put_on x v es) → All (EntryOk o values jobs top shown lower upper) (cond t (with_value v e ∷ es) (e ∷ put_on x v es))
+      by : (t : Bool) → AllByRecursion (EntryOk o values jobs top shown lower upper) (put_on x v es) → AllByRecursion (EntryOk o values jobs top shown lower upper) (cond t (with_value v e ∷ es) (e ∷ put_on x v es))
       by true k = (h.0, h.1)
       by false k = (h.0, k)
 
 -- a put keeps the records of a sheet
 module _ {S R : Type 0} (P : ℕ → Type 0) where
-  pub numbers-put_on : (x : ℕ) (v : R) (es : List (Entry S R)) → All (λ (e : Entry S R). P e.number) es → All (λ (e : Entry S R). P e.number) (put_on x v es)
+  pub numbers-put_on : (x : ℕ) (v : R) (es : List (Entry S R)) → AllByRecursion (λ (e : Entry S R). P e.number) es → AllByRecursion (λ (e : Entry S R). P e.number) (put_on x v es)
   numbers-put_on x v [] h = tt
   numbers-put_on x v (e ∷ es) h = by (eqb x e.number) (numbers-put_on x v es h.1)
     where
-      by : (t : Bool) → All (λ (e : Entry S R). P e.number) (put_on x v es) → All (λ (e : Entry S R). P e.number) (cond t (with_value v e ∷ es) (e ∷ put_on x v es))
+      by : (t : Bool) → AllByRecursion (λ (e : Entry S R). P e.number) (put_on x v es) → AllByRecursion (λ (e : Entry S R). P e.number) (cond t (with_value v e ∷ es) (e ∷ put_on x v es))
       by true k = (h.0, h.1)
       by false k = (h.0, k)
 

@@ -1,6 +1,6 @@
 -- The journal as a list of jobs: an acceptance enters its job in it, and leaves the lines of the others as they were.
 use Rattle.std.proofs.Common.{◌≡◌, ℕ, ◌+◌, ◌*◌, ◌<◌, ◌≤◌, Bool, true, false, cond, List, [], ◌∷◌, map, length, take, drop, refl, ap, ◌∙◌, arith, length-take}
-use Rattle.std.specs.List.{AllByRecursion as All}
+use Rattle.std.specs.List.{AllByRecursion}
 use Rattle.std.proofs.lemmas.List.{take_at}
 use Rattle.std.proofs.ByRecursion.{All-weaker}
 use Rattle.kinds.specs.Stamps.{Order, Kind}
@@ -20,7 +20,7 @@ journal-same g h a b c = λ i. map (job_at (a i)) (take (c i) (b i))
 
 -- every head has its lines at a place below n, at most 16 of them
 abbrev pub PlacedBelow : {S : Type 0} → ℕ → List (Head S) → Type 0
-PlacedBelow {S} n heads = All (λ (h : Head S). (h.place < n) × (h.count ≤ 16)) heads
+PlacedBelow {S} n heads = AllByRecursion (λ (h : Head S). (h.place < n) × (h.count ≤ 16)) heads
 
 -- a head with its lines below n, entered among such heads
 module _ {S : Type 0} where

@@ -1,7 +1,7 @@
 -- What the registrar's tables keep besides the law: rising versions, and tickets in the order of submission.
 use Rattle.std.proofs.Common.{◌≡◌, ℕ, zero, suc, ◌+◌, ◌<◌, ◌≤◌, Bool, true, false, cond, ◌≢◌, ◌⊎◌, List, [], ◌∷◌, ◌++◌, map, length, take, Some, None, Ok, Err, Option, Result, sym, refl, ap, ◌∙◌, subst, inl, inr, ⊎_elim, arith}
 use Rattle.std.specs.Option.{option_map}
-use Rattle.std.specs.List.{AllByRecursion as All, slice_get}
+use Rattle.std.specs.List.{AllByRecursion, slice_get}
 use Rattle.std.proofs.lemmas.List.{append-nil}
 use Rattle.kinds.specs.Stamps.{Order, Ordered, Kind, Lawful}
 use Rattle.model.specs.declared.entry.Entry.{Entry}
@@ -34,7 +34,7 @@ pub record Neat {S R : Type 0} (records : ℕ) (a : AcceptedJob S R) : Type 0 wh
   pub looks_are : a.looks ≡ looks_of (leaf entries)
   pub puts_are : a.puts ≡ puts_of (leaf entries)
   pub distinct : Distinct entries
-  pub inside : All (λ (e : Entry S R). e.number < records) entries
+  pub inside : AllByRecursion (λ (e : Entry S R). e.number < records) entries
   pub few : length entries ≤ 16
 
 pub record Keeps {S R : Type 0} (o : Order S) (values : List R) (g : Registry S R) (accepted : List (AcceptedJob S R)) : Type 0 where

@@ -1,6 +1,6 @@
 -- What users lean on holds after every run.
 use Rattle.std.proofs.Common.{◌≡◌, ℕ, zero, suc, ◌<◌, ◌≤◌, Bool, true, false, ◌≢◌, ◌⊎◌, List, [], ◌∷◌, map, length, is_some, Some, None, Option, sym, refl, ap, ◌∙◌, subst, inl, inr, ⊎_elim, arith}
-use Rattle.std.specs.List.{AllByRecursion as All, slice_get}
+use Rattle.std.specs.List.{AllByRecursion, slice_get}
 use Rattle.std.proofs.lemmas.Bool.{false≢true}
 use Rattle.kinds.specs.Stamps.{Order, Kind, Lawful, Before, Between}
 use Rattle.model.specs.declared.entry.Entry.{Entry}
@@ -27,7 +27,7 @@ pairwise : {A : Type 0} (R : A → A → Type 0) (xs : List A) → Pairs R xs �
 pairwise R [] h = tt
 pairwise R (x ∷ xs) h = (in_all (R x) xs h.0, pairwise R xs h.1)
 
-numbers_in : {A : Type 0} (P : A → Type 0) (Q : ℕ → Type 0) (f : A → ℕ) (xs : List A) → ((a : A) → P a → Q (f a)) → All P xs → All Q (map f xs)
+numbers_in : {A : Type 0} (P : A → Type 0) (Q : ℕ → Type 0) (f : A → ℕ) (xs : List A) → ((a : A) → P a → Q (f a)) → AllByRecursion P xs → AllByRecursion Q (map f xs)
 numbers_in P Q f [] h p = tt
 numbers_in P Q f (x ∷ xs) h p = (h x p.0, numbers_in P Q f xs h p.1)
 
@@ -36,24 +36,24 @@ module _ {S R : Type 0} where
   number e = e.number
 
   -- the numbers of looks and of puts are numbers of entries
-  looks_all : (P : ℕ → Type 0) (es : List (Entry S R)) → All (λ (e : Entry S R). P e.number) es → All P (look_numbers (looks_of (leaf es)))
+  looks_all : (P : ℕ → Type 0) (es : List (Entry S R)) → AllByRecursion (λ (e : Entry S R). P e.number) es → AllByRecursion P (look_numbers (looks_of (leaf es)))
   looks_all P [] h = tt
   looks_all P (e ∷ es) h = by e.seen (looks_all P es h.1)
     where
-      by : (t : Bool) → All P (look_numbers (looks_of (leaf es))) → All P (look_numbers (look_first e.number (when t (record { value = e.saw; stamp = e.noted })) (looks_of (leaf es))))
+      by : (t : Bool) → AllByRecursion P (look_numbers (looks_of (leaf es))) → AllByRecursion P (look_numbers (look_first e.number (when t (record { value = e.saw; stamp = e.noted })) (looks_of (leaf es))))
       by true k = (h.0, k)
       by false k = k
 
-  puts_all : (P : ℕ → Type 0) (es : List (Entry S R)) → All (λ (e : Entry S R). P e.number) es → All P (put_numbers (puts_of (leaf es)))
+  puts_all : (P : ℕ → Type 0) (es : List (Entry S R)) → AllByRecursion (λ (e : Entry S R). P e.number) es → AllByRecursion P (put_numbers (puts_of (leaf es)))
   puts_all P [] h = tt
   puts_all P (e ∷ es) h = by e.put (puts_all P es h.1)
     where
-      by : (t : Bool) → All P (put_numbers (puts_of (leaf es))) → All P (put_numbers (put_first e.number (when t e.wrote) (puts_of (leaf es))))
+      by : (t : Bool) → AllByRecursion P (put_numbers (puts_of (leaf es))) → AllByRecursion P (put_numbers (put_first e.number (when t e.wrote) (puts_of (leaf es))))
       by true k = (h.0, k)
       by false k = k
 
   -- so they are apart where the entries are
-  apart_from : (e : Entry S R) (es : List (Entry S R)) → ((a : Entry S R) → In a es → e.number ≢ a.number) → All (λ (a : Entry S R). e.number ≢ a.number) es
+  apart_from : (e : Entry S R) (es : List (Entry S R)) → ((a : Entry S R) → In a es → e.number ≢ a.number) → AllByRecursion (λ (a : Entry S R). e.number ≢ a.number) es
   apart_from e es h = in_all (λ (a : Entry S R). e.number ≢ a.number) es h
 
   looks_apart : (es : List (Entry S R)) → Distinct es → Pairwise ◌≢◌ (look_numbers (looks_of (leaf es)))
@@ -73,7 +73,7 @@ module _ {S R : Type 0} where
       by false k = k
 
   -- the numbers of a sheet
-  each_stands : (es : List (Entry S R)) → All (λ (e : Entry S R). StandsIn (map number es) e.number) es
+  each_stands : (es : List (Entry S R)) → AllByRecursion (λ (e : Entry S R). StandsIn (map number es) e.number) es
   each_stands [] = tt
   each_stands (e ∷ es) =
       ((0, refl), in_all (λ (a : Entry S R). StandsIn (map number (e ∷ es)) a.number) es (λ a m. let s = all_in (λ (e : Entry S R). StandsIn (map number es) e.number) m (each_stands es) in (suc s.0, s.1)))
@@ -92,8 +92,8 @@ module _ {S R : Type 0} where
         puts_apart = subst (λ (z : List (Put R)). Pairwise ◌≢◌ (put_numbers z)) (sym n.puts_are) (puts_apart n.entries n.distinct);
         named = map number n.entries;
         few = let l = length-numbers n.entries in let f = n.few in omega arith;
-        looks_named = subst (λ (z : List (Look S R)). All (StandsIn (map number n.entries)) (look_numbers z)) (sym n.looks_are) (looks_all (StandsIn (map number n.entries)) n.entries (each_stands n.entries));
-        puts_named = subst (λ (z : List (Put R)). All (StandsIn (map number n.entries)) (put_numbers z)) (sym n.puts_are) (puts_all (StandsIn (map number n.entries)) n.entries (each_stands n.entries));
+        looks_named = subst (λ (z : List (Look S R)). AllByRecursion (StandsIn (map number n.entries)) (look_numbers z)) (sym n.looks_are) (looks_all (StandsIn (map number n.entries)) n.entries (each_stands n.entries));
+        puts_named = subst (λ (z : List (Put R)). AllByRecursion (StandsIn (map number n.entries)) (put_numbers z)) (sym n.puts_are) (puts_all (StandsIn (map number n.entries)) n.entries (each_stands n.entries));
         inside = numbers_in (λ (e : Entry S R). e.number < records) (λ x. x < records) number n.entries (λ e p. p) n.inside;
       }
 

@@ -1,7 +1,7 @@
 -- Membership, lists whose members stand in a relation two by two, and arrangements.
 use Rattle.std.proofs.Common.{◌≡◌, ◌⊎◌, List, [], ◌∷◌, ◌++◌, sym, refl, ◌∙◌, subst, inl, inr, ⊎_elim}
 use mathlib.Core.List.{Memᴰ, Permᴰ}
-use Rattle.std.specs.List.{AllByRecursion as All}
+use Rattle.std.specs.List.{AllByRecursion}
 
 abbrev pub In : {A : Type 0} → A → List A → Type 0
 In a xs = Memᴰ a xs
@@ -19,11 +19,11 @@ here = Memᴰ.head refl
 pub there : {A : Type 0} {a x : A} {xs : List A} → In a xs → In a (x ∷ xs)
 there m = Memᴰ.tail m
 
-pub all_in : {A : Type 0} (P : A → Type 0) {a : A} {xs : List A} → In a xs → All P xs → P a
+pub all_in : {A : Type 0} (P : A → Type 0) {a : A} {xs : List A} → In a xs → AllByRecursion P xs → P a
 all_in P (Memᴰ.head e) h = subst P (sym e) h.0
 all_in P (Memᴰ.tail m) h = all_in P m h.1
 
-pub in_all : {A : Type 0} (P : A → Type 0) (xs : List A) → ((a : A) → In a xs → P a) → All P xs
+pub in_all : {A : Type 0} (P : A → Type 0) (xs : List A) → ((a : A) → In a xs → P a) → AllByRecursion P xs
 in_all P [] h = tt
 in_all P (x ∷ xs) h = (h x here, in_all P xs (λ a m. h a (there m)))
 

@@ -2,7 +2,7 @@
 use Rattle.std.specs.Prelude.{◌≡◌, ℕ, Bool, true, false, cond, List, [], ◌∷◌, Some, None, Ok, filter, Option, ◌==◌}
 use mathlib.Core.List.{Permᴰ}
 use Rattle.std.specs.Option.{option_map}
-use Rattle.std.specs.List.{AllByRecursion as All, slice_get}
+use Rattle.std.specs.List.{AllByRecursion, slice_get}
 use Rattle.kinds.specs.Stamps.{Order, Kind}
 use Rattle.kinds.specs.Bounds.{same, NotAfter}
 use Rattle.model.specs.Rows.{Stood, stood}
@@ -40,13 +40,13 @@ module _ {S R : Type 0} where
   -- every noted look shows the value and the write stamp standing just before its job
   abbrev pub BorneOut : StandingAt S R → List (AcceptedJob S R) → Type 0
   BorneOut standing [] = Unit {0}
-  BorneOut standing (a ∷ order) = All (λ (l : Look S R). standing l.number ≡ Some l.saw) a.looks × BorneOut (after_job a standing) order
+  BorneOut standing (a ∷ order) = AllByRecursion (λ (l : Look S R). standing l.number ≡ Some l.saw) a.looks × BorneOut (after_job a standing) order
 
 module _ {S R : Type 0} (o : Order S) where
   -- no stamp falls
   abbrev pub NeverFalls : List (AcceptedJob S R) → Type 0
   NeverFalls [] = Unit {0}
-  NeverFalls (a ∷ order) = All (λ (b : AcceptedJob S R). NotAfter o a.stamp b.stamp) order × NeverFalls order
+  NeverFalls (a ∷ order) = AllByRecursion (λ (b : AcceptedJob S R). NotAfter o a.stamp b.stamp) order × NeverFalls order
 
   -- a serial order of some jobs: each of them once, and no stamp falls
   pub record SerialOrder (jobs order : List (AcceptedJob S R)) : Type 0 where

@@ -1,6 +1,6 @@
 -- What users lean on, after every run.
 use Rattle.std.specs.Prelude.{◌≡◌, ℕ, ◌<◌, ◌≤◌, ◌≢◌, List, [], ◌∷◌, map, length, Some, None, Ok, Option}
-use Rattle.std.specs.List.{AllByRecursion as All, slice_get}
+use Rattle.std.specs.List.{AllByRecursion, slice_get}
 use Rattle.kinds.specs.Stamps.{Order, Kind, Before}
 use Rattle.model.specs.declared.row.Row.{Row}
 use Rattle.model.specs.Rows.{write_of, older}
@@ -13,7 +13,7 @@ use Rattle.law.specs.Runs.{Desk, Call, run, start}
 -- each member with each that stands behind it
 abbrev pub Pairwise : {A : Type 0} → (A → A → Type 0) → List A → Type 0
 Pairwise R [] = Unit {0}
-Pairwise R (x ∷ xs) = All (R x) xs × Pairwise R xs
+Pairwise R (x ∷ xs) = AllByRecursion (R x) xs × Pairwise R xs
 
 module _ {S R : Type 0} where
   abbrev pub look_numbers : List (Look S R) → List ℕ
@@ -35,9 +35,9 @@ pub record NeatJob {S R : Type 0} (o : Order S) (records : ℕ) (a : AcceptedJob
   pub puts_apart : Pairwise ◌≢◌ (put_numbers a.puts)
   pub named : List ℕ
   pub few : length named ≤ 16
-  pub looks_named : All (StandsIn named) (look_numbers a.looks)
-  pub puts_named : All (StandsIn named) (put_numbers a.puts)
-  pub inside : All (λ x. x < records) named
+  pub looks_named : AllByRecursion (StandsIn named) (look_numbers a.looks)
+  pub puts_named : AllByRecursion (StandsIn named) (put_numbers a.puts)
+  pub inside : AllByRecursion (λ x. x < records) named
 
 -- versions, the newest first, each before the one that follows it
 abbrev pub Rising : {S : Type 0} → Order S → S → List S → Type 0
@@ -45,7 +45,7 @@ Rising o newer [] = Unit {0}
 Rising o newer (v ∷ vs) = Before o v newer × Rising o v vs
 
 pub record KeptPromises {S R : Type 0} (k : Kind S) (d : Desk S R) : Type 0 where
-  pub jobs : All (NeatJob k.order d.registry.own.records) (journal_of d.registry)
+  pub jobs : AllByRecursion (NeatJob k.order d.registry.own.records) (journal_of d.registry)
   pub tickets_apart : Pairwise (λ (a b : AcceptedJob S R). a.ticket ≢ b.ticket) (journal_of d.registry)
   pub versions : (x : ℕ) (r : Row S R) → slice_get d.registry.rows x ≡ Some r → Rising k.order (write_of r) (older r)
   -- a live job with an entry has a place; a fresh one has the widest bounds
