@@ -17,10 +17,13 @@ WORD = r"[A-Za-z_][A-Za-z0-9_'·]*(?:-[A-Za-z0-9_'·]+)*"
 TOKEN = re.compile(r"(?<![\w'◌·-])" + WORD + r"(?![\w'◌·-])")
 DECLARED = re.compile(r"^\s*(?:(?:abbrev|unfoldable|pub|private)\s+)*(" + WORD + r"(?:\s+" + WORD + r")*)\s*:(?!:)")
 TYPE = re.compile(r"^\s*(?:pub\s+)?(?:record|data)\s+(" + WORD + r")")
-# functions of the library that lemmas are named after
-LIBRARY = set("length take drop map append set get filter nth replicate insert cond eqb reverse sum rotate_right slice_get".split())
-# names that would fall together with another one, or read badly: old name, new name
-CHOSEN = {}
+ALIAS = re.compile(r"\bas (" + WORD + r")(?=[,}])")
+# lemmas of one function of another: the first names with which a dash stays
+OUTER = set("length take nth laid placed numbers jobs versions queue sheet".split())
+# what such a lemma speaks of
+INNER = set("entered first_written firsts_after founded laid laid_from numbers row_written rows_after shown waiting map set part".split())
+INNER |= set("replicate put_on listed sum submitted take".split())
+CHOSEN = {"put-on-length": "length-put_on", "put_on-length": "length-put_on"}
 
 
 def shared(path):
@@ -59,7 +62,6 @@ def camel(word):
 
 def table():
     names = declared()
-    functions = LIBRARY | {n.replace("-", "_") for n, spec in names.items() if spec and n[:1].islower()}
     out = {}
     for n, spec in sorted(names.items()):
         if "-" not in n:
@@ -76,10 +78,15 @@ def table():
             if not spec:
                 for i in range(1, len(parts)):
                     a, b = "_".join(parts[:i]), "_".join(parts[i:])
-                    if a in functions and b in functions:
+                    if a in OUTER and b in INNER:
                         new = a + "-" + b
             out[n] = new or "_".join(parts)
     return {a: b for a, b in out.items() if a != b}
+
+
+def aliases(text):
+    """The names that a file gives to what it brings in."""
+    return {a: a.lower().replace("-", "_") for a in ALIAS.findall(text) if "-" in a}
 
 
 def turned(text, names):
@@ -109,13 +116,14 @@ def code(text, comment, names):
 
 
 def main():
-    names = table()
+    chosen = table()
     if "--list" in sys.argv:
-        for a, b in names.items():
+        for a, b in chosen.items():
             print(a, b)
         return
     for path in folders() + sorted(glob.glob("crates/*/src/**/*.rt", recursive=True)) + sorted(glob.glob("crates/*/must-fail/*.edit")) + sorted(glob.glob("docs/*.md")) + ["README.md"]:
         old = open(path, encoding="utf-8").read()
+        names = chosen if path.endswith(".md") else chosen | aliases(old)
         if path.endswith(".antt"):
             new = code(old, "--", names)
         elif path.endswith(".rt"):
@@ -127,7 +135,7 @@ def main():
         if new != old:
             with open(path, "w", encoding="utf-8") as f:
                 f.write(new)
-    print(f"respelled {len(names)} names")
+    print(f"respelled {len(chosen)} names")
 
 
 if __name__ == "__main__":

@@ -1,17 +1,16 @@
 -- Looks and puts laid one after the other.
-use Rattle.std.proofs.Common.{◌≡◌, ℕ, ◌+◌, ◌<◌, ◌≤◌, Bool, true, false, cond, List, [], ◌∷◌, ◌++◌, map, length, get_or, drop, Option, sym, refl, ap, ◌∙◌, subst, add_assoc, arith}
+use Rattle.std.proofs.Common.{◌≡◌, ℕ, ◌+◌, ◌<◌, ◌≤◌, Bool, true, false, cond, List, [], ◌∷◌, ◌++◌, map, length, get_or, drop, sym, refl, ap, ◌∙◌, arith}
 use Rattle.std.specs.List.{flat_map}
 use Rattle.std.proofs.lemmas.List.{at_drop_more, at_drop_all, length-append, append_assoc}
-use Rattle.kinds.specs.Bytes.{be2, be4}
+use Rattle.kinds.specs.Bytes.{be4}
 use Rattle.kinds.specs.Forms.{Form, Formed}
 use Rattle.kinds.specs.Stamps.{Order}
 use Rattle.model.specs.declared.entry.Entry.{Entry}
-use Rattle.model.specs.Rows.{Stood}
-use Rattle.law.specs.Daybook.{Look, Put, when, look_first, put_first, line_of, looks_of, puts_of}
+use Rattle.law.specs.Daybook.{Look, when, look_first, put_first, line_of, looks_of, puts_of}
 use Rattle.archive.specs.Laying.{laid_over}
-use Rattle.archive.specs.Journal.{look_bytes, put_bytes, block_bytes}
+use Rattle.archive.specs.Journal.{look_bytes, put_bytes}
 use Rattle.archive.specs.Laid.{look_count, put_count, front_bytes, block_in, look_in, put_in_entry, looks_in, puts_in}
-use Rattle.archive.proofs.Laid.{laid_on, laid_none, laid_next}
+use Rattle.archive.proofs.Laid.{laid_on, laid_none}
 
 -- what is left, laid here, is what was to be laid
 pub record Left {E : Type 0} (F : List E → List ℕ) (es : List E) (at here i : ℕ) (d e : List ℕ) : Type 0 where
@@ -56,8 +55,8 @@ module _ {E : Type 0} (F : List E → List ℕ) (one : E → List ℕ) (more : (
       (sym (laid_none here e) ∙ ap (λ zs. laid_over here zs e) (sym n) ∙ l.rest, omega arith)
 
 module _ {S R : Type 0} (o : Order S) (f : Form R) where
-  pub looks-first : (e : Entry S R) (es : List (Entry S R)) → looks_in o f (e ∷ es) ≡ look_in o f e ++ looks_in o f es
-  looks-first e es = by e.seen
+  pub looks_first : (e : Entry S R) (es : List (Entry S R)) → looks_in o f (e ∷ es) ≡ look_in o f e ++ looks_in o f es
+  looks_first e es = by e.seen
     where
       by : (b : Bool) → flat_map (look_bytes o f) (look_first e.number (when b (record { value = e.saw; stamp = e.noted })) (looks_of (map line_of es)))
           ≡ cond b (look_bytes o f (record { number = e.number; saw = record { value = e.saw; stamp = e.noted } })) [] ++ looks_in o f es
@@ -78,8 +77,8 @@ laid_no true xs e at d = let z : ◌≡◌ {A = ℕ} 0 1 = cc in absurd (omega a
 laid_no false xs e at d = (sym (laid_none at d), omega arith)
 
 module _ {S R : Type 0} (o : Order S) (f : Form R) (laws : Formed 8 o.form) (formed : Formed 12 f) where
-  pub look-wide : (l : Look S R) → length (look_bytes o f l) ≡ 22
-  look-wide l =
+  pub look_wide : (l : Look S R) → length (look_bytes o f l) ≡ 22
+  look_wide l =
       let w = formed.wide l.saw.value in let x = laws.wide l.saw.stamp in let a = length-append (o.form.written l.saw.stamp) (f.written l.saw.value) in omega arith
 
 small : (b : Bool) → cond b 1 0 ≤ 1
@@ -102,16 +101,16 @@ module _ {S R : Type 0} where
       by false = omega arith
 
   -- one entry more is counted
-  pub looks-counted : (es : List (Entry S R)) (i n r : ℕ) (e : Entry S R) → i < length es → e ≡ get_or es i e → r ≡ cond e.seen 1 0
+  pub looks_counted : (es : List (Entry S R)) (i n r : ℕ) (e : Entry S R) → i < length es → e ≡ get_or es i e → r ≡ cond e.seen 1 0
       → (n + look_count (drop i es) ≡ look_count es) × (n ≤ i) → (n + r + look_count (drop (i + 1) es) ≡ look_count es) × (n + r ≤ i + 1)
-  looks-counted es i n r e h q p v =
+  looks_counted es i n r e h q p v =
       let a : look_count (drop i es) ≡ cond e.seen 1 0 + look_count (drop (i + 1) es) = at_drop_more look_count es i e h ∙ ap (λ y. look_count (y ∷ drop (i + 1) es)) (sym q) ∙ look_more e (drop (i + 1) es) in
       let k = small e.seen in
       (omega (arith, v.0), omega (arith, v.1))
 
-  pub puts-counted : (es : List (Entry S R)) (i n r : ℕ) (e : Entry S R) → i < length es → e ≡ get_or es i e → r ≡ cond e.put 1 0
+  pub puts_counted : (es : List (Entry S R)) (i n r : ℕ) (e : Entry S R) → i < length es → e ≡ get_or es i e → r ≡ cond e.put 1 0
       → (n + put_count (drop i es) ≡ put_count es) × (n ≤ i) → (n + r + put_count (drop (i + 1) es) ≡ put_count es) × (n + r ≤ i + 1)
-  puts-counted es i n r e h q p v =
+  puts_counted es i n r e h q p v =
       let a : put_count (drop i es) ≡ cond e.put 1 0 + put_count (drop (i + 1) es) = at_drop_more put_count es i e h ∙ ap (λ y. put_count (y ∷ drop (i + 1) es)) (sym q) ∙ put_more e (drop (i + 1) es) in
       let k = small e.put in
       (omega (arith, v.0), omega (arith, v.1))
@@ -123,13 +122,13 @@ module _ {S R : Type 0} (o : Order S) (f : Form R) (s : S) (ticket : ℕ) (es : 
       append_assoc (front_bytes o s ticket (look_count es) (put_count es)) (looks_in o f es) (puts_in o f es)
       ∙ append_assoc (o.form.written s) (be4 ticket ++ (look_count es ∷ put_count es ∷ 0 ∷ 0 ∷ [])) (looks_in o f es ++ puts_in o f es)
 
-  pub front-wide : Formed 8 o.form → (r p : ℕ) → length (front_bytes o s ticket r p) ≡ 16
-  front-wide laws r p = let w = laws.wide s in let a = length-append (o.form.written s) (be4 ticket ++ (r ∷ p ∷ 0 ∷ 0 ∷ [])) in omega arith
+  pub front_wide : Formed 8 o.form → (r p : ℕ) → length (front_bytes o s ticket r p) ≡ 16
+  front_wide laws r p = let w = laws.wide s in let a = length-append (o.form.written s) (be4 ticket ++ (r ∷ p ∷ 0 ∷ 0 ∷ [])) in omega arith
 
   pub block_long : Formed 8 o.form → length (block_in o f s ticket es) ≡ 16 + length (looks_in o f es) + length (puts_in o f es)
   block_long laws =
       let e = ap length block_split in
-      let w = front-wide laws (look_count es) (put_count es) in
+      let w = front_wide laws (look_count es) (put_count es) in
       let a = length-append (front_bytes o s ticket (look_count es) (put_count es) ++ looks_in o f es) (puts_in o f es) in
       let b = length-append (front_bytes o s ticket (look_count es) (put_count es)) (looks_in o f es) in
       omega arith

@@ -1,10 +1,10 @@
 -- Numbers that stand at a place, and readers that were met.
-use Rattle.std.proofs.Common.{◌≡◌, ℕ, zero, suc, ◌+◌, ◌*◌, ◌^◌, ◌<◌, ◌≤◌, Bool, true, false, cond, ◌&&◌, List, [], ◌∷◌, ◌++◌, length, get_or, take, drop, Ok, Err, Result, sym, refl, ap, ◌∙◌, subst, arith, drop-cons}
+use Rattle.std.proofs.Common.{◌≡◌, ℕ, zero, suc, ◌+◌, ◌^◌, ◌<◌, ◌≤◌, Bool, true, false, cond, List, ◌∷◌, length, get_or, take, drop, Ok, Err, Result, sym, refl, ap, ◌∙◌, arith, drop-cons}
 use Rattle.kinds.specs.Bytes.{be2, be4, number2, number4, Bytes, part}
 use Rattle.kinds.specs.ByteLaws.{listed, is_listed, forth2, forth4, back2, back4}
 use Rattle.archive.specs.declared.fault.Fault.{Fault}
 use Rattle.archive.specs.Faults.{onward}
-use Rattle.archive.proofs.Stands.{Stands, bytes-part, part_length}
+use Rattle.archive.proofs.Stands.{Stands, bytes_part, part_length}
 
 pub same2 : (xs : List ℕ) → length xs ≡ 2 → Bytes xs → be2 (number2 xs) ≡ xs
 same2 xs h b = forth2 (get_or xs 0 0) (get_or xs 1 0) (b 0) (b 1) ∙ sym (is_listed 2 0 xs h)
@@ -18,10 +18,10 @@ take-listed (suc n) i bs h = ap (take (suc n)) (drop-cons bs i 0 (omega arith)) 
 
 module _ (bs : List ℕ) (t : Bytes bs) where
   pub stands4 : (at : ℕ) → at + 4 ≤ length bs → Stands bs at (be4 (number4 (part bs at 4)))
-  stands4 at h = sym (same4 (part bs at 4) (part_length bs at 4 h) (bytes-part bs t at 4))
+  stands4 at h = sym (same4 (part bs at 4) (part_length bs at 4 h) (bytes_part bs t at 4))
 
   pub stands2 : (at : ℕ) → at + 2 ≤ length bs → Stands bs at (be2 (number2 (part bs at 2)))
-  stands2 at h = sym (same2 (part bs at 2) (part_length bs at 2 h) (bytes-part bs t at 2))
+  stands2 at h = sym (same2 (part bs at 2) (part_length bs at 2 h) (bytes_part bs t at 2))
 
 pub reads4 : (bs : List ℕ) (at n : ℕ) → n < 2 ^ 32 → Stands bs at (be4 n) → number4 (part bs at 4) ≡ n
 reads4 bs at n h p = ap number4 p ∙ back4 n h

@@ -1,9 +1,9 @@
 -- What is accepted is what is written: heading, pairs and values.
-use Rattle.std.proofs.Common.{◌≡◌, ℕ, zero, suc, ◌+◌, ◌*◌, ◌^◌, ◌<◌, ◌≤◌, Bool, true, false, cond, ◌&&◌, eqb, leb, List, [], ◌∷◌, ◌++◌, length, get_or, take, drop, Some, None, Ok, Err, Option, Result, sym, refl, ap, ◌∙◌, subst, mul-suc, arith}
+use Rattle.std.proofs.Common.{◌≡◌, ℕ, zero, suc, ◌+◌, ◌*◌, ◌<◌, ◌≤◌, Bool, true, false, cond, ◌&&◌, eqb, leb, List, [], ◌∷◌, ◌++◌, length, get_or, drop, Some, None, Ok, Option, Result, sym, refl, ap, ◌∙◌, subst, mul-suc, arith}
 use Rattle.std.specs.Option.{ok_or}
 use Rattle.std.proofs.lemmas.List.{length-append, length-drop, get_or-drop}
 use Rattle.std.proofs.lemmas.Bool.{and_parts, leb-true, eqb-true}
-use Rattle.kinds.specs.Bytes.{be2, be4, number2, number4, Bytes, part}
+use Rattle.kinds.specs.Bytes.{be4, number4, Bytes, part}
 use Rattle.kinds.specs.Forms.{Form, Formed}
 use Rattle.kinds.specs.ByteLaws.{forth2, forth4}
 use Rattle.archive.specs.declared.fault.Fault.{Fault}
@@ -12,7 +12,7 @@ use Rattle.archive.specs.Faults.{onward}
 use Rattle.archive.specs.Heading.{heading_bytes, mark_right, kinds_right, records_in, jobs_in, sizes_right}
 use Rattle.archive.specs.Directory.{pair_right}
 use Rattle.archive.specs.Values.{values_bytes, read_values, value_first, stated_values}
-use Rattle.archive.proofs.Stands.{Stands, join, bytes-part, part_length}
+use Rattle.archive.proofs.Stands.{Stands, join, bytes_part, part_length}
 use Rattle.archive.proofs.Fields.{take-listed, stands4}
 
 twelve_same : (s r a b c d e f g h i j k l : ℕ) → a ≡ 65 → b ≡ 83 → c ≡ 74 → d ≡ 49 → e ≡ s → f ≡ r → g < 256 → h < 256 → i < 256 → j < 256 → k < 256 → l < 256
@@ -21,9 +21,9 @@ twelve_same s r a b c d e f g h i j k l pa pb pc pd pe pf hg hh hi hj hk hl =
     let x = forth2 g h hg hh in let y = forth4 i j k l hi hj hk hl in
     cc
 
-when-last : (b x : Bool) → cond b x true ≡ true → b ≡ true → x ≡ true
-when-last true x h e = h
-when-last false x h e = let z : ◌≡◌ {A = ℕ} 0 1 = cc in absurd (omega arith)
+when_last : (b x : Bool) → cond b x true ≡ true → b ≡ true → x ≡ true
+when_last true x h e = h
+when_last false x h e = let z : ◌≡◌ {A = ℕ} 0 1 = cc in absurd (omega arith)
 
 pub values_length : {R : Type 0} (f : Form R) → Formed 12 f → (vs : List R) → length (values_bytes f vs) ≡ 12 * length vs
 values_length f laws [] = refl
@@ -72,25 +72,25 @@ module _ (bs : List ℕ) (t : Bytes bs) where
         join bs at (be4 from) (be4 (number4 (part bs (at + 4) 4))) (subst (λ (m : ℕ). Stands bs at (be4 m)) e (stands4 bs t at (omega arith))) (stands4 bs t (at + 4) (omega arith)),
         leb-true _ _ c.0,
         n,
-        λ q. eqb-true _ _ (when-last last (eqb (from + number4 (part bs (at + 4) 4)) (length bs)) c.1 q),
+        λ q. eqb-true _ _ (when_last last (eqb (from + number4 (part bs (at + 4) 4)) (length bs)) c.1 q),
       )
 
   module _ {R : Type 0} (f : Form R) (laws : Formed 12 f) where
-    values-step : (at n : ℕ) (o : Option R) → at + 12 ≤ length bs → f.read (part bs at 12) ≡ o
+    values_step : (at n : ℕ) (o : Option R) → at + 12 ≤ length bs → f.read (part bs at 12) ≡ o
         → (vs : List R) → (rest : Result (Unit {0}) Fault) → onward (ok_or o (ValueWrong at)) (λ _. rest) ≡ Ok tt
         → (rest ≡ Ok tt → Stands bs (at + 12) (values_bytes f vs) × (length vs ≡ n))
         → Stands bs at (values_bytes f (value_first o vs)) × (length (value_first o vs) ≡ suc n)
-    values-step at n (Some v) h e vs rest q ih =
+    values_step at n (Some v) h e vs rest q ih =
         let l = part_length bs at 12 h in
-        let w : f.written v ≡ part bs at 12 = laws.forth (part bs at 12) v l (bytes-part bs t at 12) e in
+        let w : f.written v ≡ part bs at 12 = laws.forth (part bs at 12) v l (bytes_part bs t at 12) e in
         let k = laws.wide v in
         let s : Stands bs at (f.written v) = ap (λ m. part bs at m) k ∙ sym w in
         (join bs at (f.written v) (values_bytes f vs) s (subst (λ (m : ℕ). Stands bs (at + m) (values_bytes f vs)) (sym k) (ih q).0), ap suc (ih q).1)
-    values-step at n None h e vs rest q ih = let z : ◌≡◌ {A = ℕ} 0 1 = cc in absurd (omega arith)
+    values_step at n None h e vs rest q ih = let z : ◌≡◌ {A = ℕ} 0 1 = cc in absurd (omega arith)
 
     pub values_stand : (n at : ℕ) → at + 12 * n ≤ length bs → read_values f bs at 12 n ≡ Ok tt
         → Stands bs at (values_bytes f (stated_values f bs at 12 n)) × (length (stated_values f bs at 12 n) ≡ n)
     values_stand zero at h q = (refl, refl)
     values_stand (suc n) at h q =
         let m = mul-suc 12 n in
-        values-step at n (f.read (part bs at 12)) (omega arith) refl (stated_values f bs (at + 12) 12 n) (read_values f bs (at + 12) 12 n) q (λ p. values_stand n (at + 12) (omega arith) p)
+        values_step at n (f.read (part bs at 12)) (omega arith) refl (stated_values f bs (at + 12) 12 n) (read_values f bs (at + 12) 12 n) q (λ p. values_stand n (at + 12) (omega arith) p)

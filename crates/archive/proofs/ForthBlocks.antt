@@ -1,9 +1,9 @@
 -- An accepted block is what is written for the job that it states.
-use Rattle.std.proofs.Common.{◌≡◌, ℕ, zero, suc, ◌+◌, ◌-◌, ◌*◌, ◌^◌, ◌<◌, ◌≤◌, Bool, true, false, cond, not, ◌&&◌, eqb, leb, List, [], ◌∷◌, ◌++◌, map, length, get_or, take, drop, is_some, Some, None, Ok, Err, Option, Result, sym, refl, ap, ◌∙◌, subst, add-zero, add_assoc, mul-suc, arith}
+use Rattle.std.proofs.Common.{◌≡◌, ℕ, zero, suc, ◌+◌, ◌-◌, ◌*◌, ◌≤◌, Bool, true, cond, not, ◌&&◌, eqb, leb, List, [], ◌∷◌, ◌++◌, length, get_or, is_some, Some, None, Ok, Err, Option, Result, sym, refl, ap, ◌∙◌, subst, add-zero, add_assoc, mul-suc, arith}
 use Rattle.std.specs.Option.{ok_or}
 use Rattle.std.specs.List.{flat_map}
 use Rattle.std.proofs.lemmas.List.{length-append}
-use Rattle.std.proofs.lemmas.Bool.{and_parts, leb-true, eqb-true}
+use Rattle.std.proofs.lemmas.Bool.{and_parts, eqb-true}
 use Rattle.kinds.specs.Stamps.{Order}
 use Rattle.kinds.specs.Bytes.{be2, be4, number2, number4, Bytes, part}
 use Rattle.kinds.specs.Forms.{Form, Formed}
@@ -14,27 +14,27 @@ use Rattle.archive.specs.declared.blocks.Opened.{Opened}
 use Rattle.archive.specs.Faults.{onward}
 use Rattle.archive.specs.Lengths.{length_right}
 use Rattle.archive.specs.Directory.{pairs_bytes, stated_length, pair_right, read_pair}
-use Rattle.archive.specs.Values.{read_value, read_values}
+use Rattle.archive.specs.Values.{read_values}
 use Rattle.archive.specs.Blocks.{stamp_at, all_noted, front_right, with_stamp, read_front, names_of, read_block, read_blocks}
 use Rattle.archive.specs.Journal.{look_bytes, put_bytes, block_bytes, block_lengths, seen_look, stated_looks, seen_put, stated_puts, stated_job, seen_job, stated_jobs}
 use Rattle.archive.proofs.Forth.{pair_stands}
-use Rattle.archive.proofs.Stands.{Stands, join, bytes-part, part_length}
+use Rattle.archive.proofs.Stands.{Stands, join, bytes_part, part_length}
 use Rattle.archive.proofs.Fields.{take-listed, stands4, stands2, guarded, bound, ok_same}
 
 module _ {S R : Type 0} (o : Order S) (f : Form R) (laws : Formed 8 o.form) (formed : Formed 12 f) (bs : List ℕ) (t : Bytes bs) where
   -- a stamp and a value that were read stand there
-  stamp-stands : (at : ℕ) (s : S) → at + 8 ≤ length bs → stamp_at o bs at ≡ Some s → Stands bs at (o.form.written s)
-  stamp-stands at s h e = ap (λ m. part bs at m) (laws.wide s) ∙ sym (laws.forth (part bs at 8) s (part_length bs at 8 h) (bytes-part bs t at 8) e)
+  stamp_stands : (at : ℕ) (s : S) → at + 8 ≤ length bs → stamp_at o bs at ≡ Some s → Stands bs at (o.form.written s)
+  stamp_stands at s h e = ap (λ m. part bs at m) (laws.wide s) ∙ sym (laws.forth (part bs at 8) s (part_length bs at 8 h) (bytes_part bs t at 8) e)
 
-  value-stands : (at : ℕ) (v : R) → at + 12 ≤ length bs → f.read (part bs at 12) ≡ Some v → Stands bs at (f.written v)
-  value-stands at v h e = ap (λ m. part bs at m) (formed.wide v) ∙ sym (formed.forth (part bs at 12) v (part_length bs at 12 h) (bytes-part bs t at 12) e)
+  value_stands : (at : ℕ) (v : R) → at + 12 ≤ length bs → f.read (part bs at 12) ≡ Some v → Stands bs at (f.written v)
+  value_stands at v h e = ap (λ m. part bs at m) (formed.wide v) ∙ sym (formed.forth (part bs at 12) v (part_length bs at 12 h) (bytes_part bs t at 12) e)
 
-  look-stands : (at : ℕ) (s : S) (v : R) → at + 22 ≤ length bs → stamp_at o bs (at + 2) ≡ Some s → f.read (part bs (at + 10) 12) ≡ Some v
+  look_stands : (at : ℕ) (s : S) (v : R) → at + 22 ≤ length bs → stamp_at o bs (at + 2) ≡ Some s → f.read (part bs (at + 10) 12) ≡ Some v
       → Stands bs at (look_bytes o f (record { number = number2 (part bs at 2); saw = record { value = v; stamp = s } }))
-  look-stands at s v h p q =
+  look_stands at s v h p q =
       join bs at (be2 (number2 (part bs at 2))) (o.form.written s ++ f.written v) (stands2 bs t at (omega arith))
-      (join bs (at + 2) (o.form.written s) (f.written v) (stamp-stands (at + 2) s (omega arith) p)
-      (subst (λ (m : ℕ). Stands bs m (f.written v)) far (value-stands (at + 10) v (omega arith) q)))
+      (join bs (at + 2) (o.form.written s) (f.written v) (stamp_stands (at + 2) s (omega arith) p)
+      (subst (λ (m : ℕ). Stands bs m (f.written v)) far (value_stands (at + 10) v (omega arith) q)))
     where
       far : at + 10 ≡ at + 2 + length (o.form.written s)
       far = let w = laws.wide s in omega arith
@@ -42,48 +42,48 @@ module _ {S R : Type 0} (o : Order S) (f : Form R) (laws : Formed 8 o.form) (for
   look_long : (l : Look S R) → length (look_bytes o f l) ≡ 22
   look_long l = let w = formed.wide l.saw.value in let x = laws.wide l.saw.stamp in let a = length-append (o.form.written l.saw.stamp) (f.written l.saw.value) in omega arith
 
-  looks-step : (at m : ℕ) (u0 : Option S) (p : Option R) → at + 22 ≤ length bs → stamp_at o bs (at + 2) ≡ u0 → f.read (part bs (at + 10) 12) ≡ p
+  looks_step : (at m : ℕ) (u0 : Option S) (p : Option R) → at + 22 ≤ length bs → stamp_at o bs (at + 2) ≡ u0 → f.read (part bs (at + 10) 12) ≡ p
       → (ls : List (Look S R)) (b : Bool) (rest : Result (Unit {0}) Fault) → (is_some u0 && b) ≡ true → onward (ok_or p (ValueWrong (at + 10))) (λ _. rest) ≡ Ok tt
       → (b ≡ true → rest ≡ Ok tt → Stands bs (at + 22) (flat_map (look_bytes o f) ls) × (length ls ≡ m))
       → Stands bs at (flat_map (look_bytes o f) (seen_look o f (number2 (part bs at 2)) u0 p ls)) × (length (seen_look o f (number2 (part bs at 2)) u0 p ls) ≡ suc m)
-  looks-step at m (Some s) (Some v) h e q ls b rest x y ih =
+  looks_step at m (Some s) (Some v) h e q ls b rest x y ih =
       let l : Look S R = record { number = number2 (part bs at 2); saw = record { value = v; stamp = s } } in
-      (join bs at (look_bytes o f l) (flat_map (look_bytes o f) ls) (look-stands at s v h e q) (subst (λ (n : ℕ). Stands bs (at + n) (flat_map (look_bytes o f) ls)) (sym (look_long l)) (ih x y).0), ap suc (ih x y).1)
-  looks-step at m (Some s) None h e q ls b rest x y ih = let z : ◌≡◌ {A = ℕ} 0 1 = cc in absurd (omega arith)
-  looks-step at m None p h e q ls b rest x y ih = let z : ◌≡◌ {A = ℕ} 0 1 = cc in absurd (omega arith)
+      (join bs at (look_bytes o f l) (flat_map (look_bytes o f) ls) (look_stands at s v h e q) (subst (λ (n : ℕ). Stands bs (at + n) (flat_map (look_bytes o f) ls)) (sym (look_long l)) (ih x y).0), ap suc (ih x y).1)
+  looks_step at m (Some s) None h e q ls b rest x y ih = let z : ◌≡◌ {A = ℕ} 0 1 = cc in absurd (omega arith)
+  looks_step at m None p h e q ls b rest x y ih = let z : ◌≡◌ {A = ℕ} 0 1 = cc in absurd (omega arith)
 
   pub looks_stand : (m at : ℕ) → at + 22 * m ≤ length bs → all_noted o bs at m ≡ true → read_values f bs (at + 10) 22 m ≡ Ok tt
       → Stands bs at (flat_map (look_bytes o f) (stated_looks o f bs at m)) × (length (stated_looks o f bs at m) ≡ m)
   looks_stand zero at h x y = (refl, refl)
   looks_stand (suc m) at h x y =
       let u = mul-suc 22 m in
-      looks-step at m (stamp_at o bs (at + 2)) (f.read (part bs (at + 10) 12)) (omega arith) refl refl (stated_looks o f bs (at + 22) m) (all_noted o bs (at + 22) m) (read_values f bs (at + 10 + 22) 22 m) x y
+      looks_step at m (stamp_at o bs (at + 2)) (f.read (part bs (at + 10) 12)) (omega arith) refl refl (stated_looks o f bs (at + 22) m) (all_noted o bs (at + 22) m) (read_values f bs (at + 10 + 22) 22 m) x y
       (λ p q. looks_stand m (at + 22) (omega arith) p (subst (λ (i : ℕ). read_values f bs i 22 m ≡ Ok tt) (swap at) q))
     where
       swap : (at : ℕ) → at + 10 + 22 ≡ at + 22 + 10
       swap at = omega arith
 
-  put-stands : (at : ℕ) (v : R) → at + 14 ≤ length bs → f.read (part bs (at + 2) 12) ≡ Some v → Stands bs at (put_bytes o f (record { number = number2 (part bs at 2); value = v }))
-  put-stands at v h q = join bs at (be2 (number2 (part bs at 2))) (f.written v) (stands2 bs t at (omega arith)) (value-stands (at + 2) v (omega arith) q)
+  put_stands : (at : ℕ) (v : R) → at + 14 ≤ length bs → f.read (part bs (at + 2) 12) ≡ Some v → Stands bs at (put_bytes o f (record { number = number2 (part bs at 2); value = v }))
+  put_stands at v h q = join bs at (be2 (number2 (part bs at 2))) (f.written v) (stands2 bs t at (omega arith)) (value_stands (at + 2) v (omega arith) q)
 
   put_long : (p : Put R) → length (put_bytes o f p) ≡ 14
   put_long p = let w = formed.wide p.value in omega arith
 
-  puts-step : (at m : ℕ) (p : Option R) → at + 14 ≤ length bs → f.read (part bs (at + 2) 12) ≡ p
+  puts_step : (at m : ℕ) (p : Option R) → at + 14 ≤ length bs → f.read (part bs (at + 2) 12) ≡ p
       → (ls : List (Put R)) (rest : Result (Unit {0}) Fault) → onward (ok_or p (ValueWrong (at + 2))) (λ _. rest) ≡ Ok tt
       → (rest ≡ Ok tt → Stands bs (at + 14) (flat_map (put_bytes o f) ls) × (length ls ≡ m))
       → Stands bs at (flat_map (put_bytes o f) (seen_put o f (number2 (part bs at 2)) p ls)) × (length (seen_put o f (number2 (part bs at 2)) p ls) ≡ suc m)
-  puts-step at m (Some v) h q ls rest y ih =
+  puts_step at m (Some v) h q ls rest y ih =
       let l : Put R = record { number = number2 (part bs at 2); value = v } in
-      (join bs at (put_bytes o f l) (flat_map (put_bytes o f) ls) (put-stands at v h q) (subst (λ (n : ℕ). Stands bs (at + n) (flat_map (put_bytes o f) ls)) (sym (put_long l)) (ih y).0), ap suc (ih y).1)
-  puts-step at m None h q ls rest y ih = let z : ◌≡◌ {A = ℕ} 0 1 = cc in absurd (omega arith)
+      (join bs at (put_bytes o f l) (flat_map (put_bytes o f) ls) (put_stands at v h q) (subst (λ (n : ℕ). Stands bs (at + n) (flat_map (put_bytes o f) ls)) (sym (put_long l)) (ih y).0), ap suc (ih y).1)
+  puts_step at m None h q ls rest y ih = let z : ◌≡◌ {A = ℕ} 0 1 = cc in absurd (omega arith)
 
   pub puts_stand : (m at : ℕ) → at + 14 * m ≤ length bs → read_values f bs (at + 2) 14 m ≡ Ok tt
       → Stands bs at (flat_map (put_bytes o f) (stated_puts o f bs at m)) × (length (stated_puts o f bs at m) ≡ m)
   puts_stand zero at h y = (refl, refl)
   puts_stand (suc m) at h y =
       let u = mul-suc 14 m in
-      puts-step at m (f.read (part bs (at + 2) 12)) (omega arith) refl (stated_puts o f bs (at + 14) m) (read_values f bs (at + 2 + 14) 14 m) y
+      puts_step at m (f.read (part bs (at + 2) 12)) (omega arith) refl (stated_puts o f bs (at + 14) m) (read_values f bs (at + 2 + 14) 14 m) y
       (λ q. puts_stand m (at + 14) (omega arith) (subst (λ (i : ℕ). read_values f bs i 14 m ≡ Ok tt) (swap at) q))
     where
       swap : (at : ℕ) → at + 2 + 14 ≡ at + 14 + 2
@@ -122,11 +122,11 @@ module _ {S R : Type 0} (o : Order S) (f : Form R) (laws : Formed 8 o.form) (for
       n3 at = omega arith
 
   -- the whole block
-  pub job-stands : (at : ℕ) (s : S) → at + 16 + 22 * get_or bs (at + 12) 0 + 14 * get_or bs (at + 13) 0 ≤ length bs → stamp_at o bs at ≡ Some s
+  pub job_stands : (at : ℕ) (s : S) → at + 16 + 22 * get_or bs (at + 12) 0 + 14 * get_or bs (at + 13) 0 ≤ length bs → stamp_at o bs at ≡ Some s
       → get_or bs (at + 14) 0 ≡ 0 → get_or bs (at + 15) 0 ≡ 0 → all_noted o bs (at + 16) (get_or bs (at + 12) 0) ≡ true
       → read_values f bs (at + 26) 22 (get_or bs (at + 12) 0) ≡ Ok tt → read_values f bs (at + 18 + 22 * get_or bs (at + 12) 0) 14 (get_or bs (at + 13) 0) ≡ Ok tt
       → Stands bs at (block_bytes o f (stated_job o f bs at s)) × (length (block_bytes o f (stated_job o f bs at s)) ≡ 16 + 22 * get_or bs (at + 12) 0 + 14 * get_or bs (at + 13) 0)
-  job-stands at s h e z0 z1 noted x y =
+  job_stands at s h e z0 z1 noted x y =
       let l = looks_stand (get_or bs (at + 12) 0) (at + 16) (omega arith) noted (subst (λ (i : ℕ). read_values f bs i 22 (get_or bs (at + 12) 0) ≡ Ok tt) (far1 at) x) in
       let u = puts_stand (get_or bs (at + 13) 0) (at + 16 + 22 * get_or bs (at + 12) 0) (omega arith) (subst (λ (i : ℕ). read_values f bs i 14 (get_or bs (at + 13) 0) ≡ Ok tt) (far2 at (get_or bs (at + 12) 0)) y) in
       let ls : List (Look S R) = stated_looks o f bs (at + 16) (get_or bs (at + 12) 0) in
@@ -138,7 +138,7 @@ module _ {S R : Type 0} (o : Order S) (f : Form R) (laws : Formed 8 o.form) (for
       let m4 : Stands bs (at + 12) mid = small_stands at (length ls) (length ps) (omega arith) (sym l.1) (sym u.1) z0 z1 in
       let t2 : Stands bs (at + 12) (mid ++ (lb ++ pb)) = join bs (at + 12) mid (lb ++ pb) m4 (moved (lb ++ pb) (plus at 12 4) tail) in
       let t3 : Stands bs (at + 8) (be4 (number4 (part bs (at + 8) 4)) ++ (mid ++ (lb ++ pb))) = join bs (at + 8) (be4 (number4 (part bs (at + 8) 4))) (mid ++ (lb ++ pb)) (stands4 bs t (at + 8) (omega arith)) (moved (mid ++ (lb ++ pb)) (plus at 8 4) t2) in (
-        join bs at (o.form.written s) (be4 (number4 (part bs (at + 8) 4)) ++ (mid ++ (lb ++ pb))) (stamp-stands at s (omega arith) e) (moved (be4 (number4 (part bs (at + 8) 4)) ++ (mid ++ (lb ++ pb))) (ap (λ n. at + n) (sym (laws.wide s))) t3),
+        join bs at (o.form.written s) (be4 (number4 (part bs (at + 8) 4)) ++ (mid ++ (lb ++ pb))) (stamp_stands at s (omega arith) e) (moved (be4 (number4 (part bs (at + 8) 4)) ++ (mid ++ (lb ++ pb))) (ap (λ n. at + n) (sym (laws.wide s))) t3),
         block_long (stated_job o f bs at s) ∙ ap (λ n. 16 + 22 * n + 14 * length ps) l.1 ∙ ap (λ n. 16 + 22 * get_or bs (at + 12) 0 + 14 * n) u.1,
       )
     where
@@ -180,7 +180,7 @@ module _ {S R : Type 0} (o : Order S) (f : Form R) (laws : Formed 8 o.form) (for
       let nn = and_parts _ (all_noted o bs (at + 16) (get_or bs (at + 12) 0)) c.0 in
       let x = bound (read_values f bs (at + 26) 22 (get_or bs (at + 12) 0)) _ h c.1 in
       let y = bound (read_values f bs (at + 18 + 22 * get_or bs (at + 12) 0) 14 (get_or bs (at + 13) 0)) _ h x.2 in
-      let st = job-stands at m.0 (omega (arith, says.2)) m.1 says.0 says.1 nn.1 x.1 y.1 in
+      let st = job_stands at m.0 (omega (arith, says.2)) m.1 says.0 says.1 nn.1 x.1 y.1 in
       (m.0, m.1, st.0, st.1 ∙ sym says.2)
 
   -- the pairs and the blocks from a place on

@@ -1,6 +1,6 @@
 -- Bytes laid over others, one form after the other.
-use Rattle.std.proofs.Common.{◌≡◌, ℕ, zero, suc, ◌+◌, ◌-◌, ◌*◌, ◌<◌, ◌≤◌, min, List, [], ◌∷◌, ◌++◌, length, get_or, take, drop, sym, refl, ap, ◌∙◌, subst, add-zero, zero-add, mul-suc, arith}
-use Rattle.std.proofs.lemmas.List.{length-take, length-append, length-take-le, take_at, drop_at, drop-drop, take-append-drop, append_assoc, append-nil, take_more, take_all}
+use Rattle.std.proofs.Common.{◌≡◌, ℕ, ◌+◌, ◌≤◌, List, [], ◌++◌, length, take, drop, sym, ap, ◌∙◌, add-zero, zero-add, arith}
+use Rattle.std.proofs.lemmas.List.{length-append, length-take-le, take_at, drop_at, drop-drop, take-append-drop, append_assoc}
 use Rattle.archive.specs.Laying.{laid_over}
 
 pub laid_none : (at : ℕ) (d : List ℕ) → laid_over at [] d ≡ d
@@ -43,5 +43,5 @@ pub laid_next : (at n : ℕ) (xs ys d e f : List ℕ) → n ≡ at + length xs �
 laid_next at n xs ys d e f p h q r = r ∙ ap (λ m. laid_over m ys e) p ∙ ap (laid_over (at + length xs) ys) q ∙ laid_on at xs ys d h
 
 -- what is laid from the start on
-pub laid-first : (xs d : List ℕ) → laid_over 0 xs d ≡ xs ++ drop (length xs) d
-laid-first xs d = ap (λ n. xs ++ drop n d) (zero-add (length xs))
+pub laid_first : (xs d : List ℕ) → laid_over 0 xs d ≡ xs ++ drop (length xs) d
+laid_first xs d = ap (λ n. xs ++ drop n d) (zero-add (length xs))

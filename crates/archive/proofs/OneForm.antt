@@ -1,22 +1,21 @@
 -- One form only: an accepted archive is what is written for what it states.
-use Rattle.std.proofs.Common.{◌≡◌, ℕ, zero, suc, ◌+◌, ◌-◌, ◌*◌, ◌<◌, ◌≤◌, Bool, true, false, cond, ◌&&◌, eqb, leb, List, [], ◌∷◌, ◌++◌, map, length, drop, Ok, Err, Result, sym, refl, ap, ◌∙◌, subst, mul-suc, arith}
+use Rattle.std.proofs.Common.{◌≡◌, ℕ, zero, suc, ◌+◌, ◌-◌, ◌*◌, ◌≤◌, true, ◌&&◌, eqb, leb, List, [], ◌∷◌, ◌++◌, length, drop, Ok, sym, refl, ap, ◌∙◌, subst, mul-suc, arith}
 use Rattle.std.specs.List.{flat_map}
 use Rattle.std.proofs.lemmas.List.{length-append, length-map}
 use Rattle.std.proofs.lemmas.Bool.{eqb-true}
 use Rattle.kinds.specs.Stamps.{Order, Ordered}
 use Rattle.kinds.specs.Values.{RecordKind, Written}
 use Rattle.kinds.specs.Bytes.{be4, Bytes}
-use Rattle.kinds.specs.Forms.{Form, Formed}
+use Rattle.kinds.specs.Forms.{Formed}
 use Rattle.law.specs.Daybook.{AcceptedJob}
-use Rattle.archive.specs.declared.fault.Fault.{Fault}
 use Rattle.archive.specs.declared.fault.Fault.TheVariants.{HeadingWrong, PairWrong}
 use Rattle.archive.specs.declared.heading.Heading.{Heading}
 use Rattle.archive.specs.Faults.{onward}
-use Rattle.archive.specs.Heading.{heading_bytes, records_in, jobs_in, mark_right, kinds_right, sizes_right, read_sizes, read_heading}
+use Rattle.archive.specs.Heading.{heading_bytes, mark_right, kinds_right, sizes_right, read_sizes, read_heading}
 use Rattle.archive.specs.Directory.{pairs_bytes, stated_length, pair_right, read_pair, read_pairs, read_directory}
 use Rattle.archive.specs.Values.{values_bytes, read_values}
 use Rattle.archive.specs.Blocks.{read_block, read_blocks}
-use Rattle.archive.specs.Rule.{read_archive, read_play, inspected}
+use Rattle.archive.specs.Rule.{read_archive, read_play}
 use Rattle.archive.specs.Journal.{block_bytes, block_lengths, archive_bytes, stated_records, stated_count, stated_opening, stated_journal}
 use Rattle.archive.specs.Theorems.{OneForm}
 use Rattle.archive.proofs.Stands.{Stands, join, all_of}

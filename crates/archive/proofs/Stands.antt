@@ -1,5 +1,5 @@
 -- Bytes that stand at a place of a list.
-use Rattle.std.proofs.Common.{◌≡◌, ℕ, zero, suc, ◌+◌, ◌*◌, ◌<◌, ◌≤◌, min, ◌⊎◌, List, [], ◌∷◌, ◌++◌, length, get_or, take, drop, sym, refl, ap, ◌∙◌, subst, inl, inr, ⊎_elim, suc-add, zero-add, arith}
+use Rattle.std.proofs.Common.{◌≡◌, ℕ, ◌+◌, ◌≤◌, List, ◌++◌, length, get_or, take, drop, sym, refl, ap, ◌∙◌, ⊎_elim, arith}
 use Rattle.std.proofs.lemmas.List.{length-take, length-drop, length-append, take-take, take_at, drop_at, drop-drop, drop-take, take-append-drop, get_or-take, get_or-drop, get_or_past, take_all}
 use Rattle.std.proofs.lemmas.Bool.{cases_lt}
 use Rattle.kinds.specs.Bytes.{Bytes, part}
@@ -30,8 +30,8 @@ module _ (bs : List ℕ) where
   second at xs ys p =
       ap (take (length ys)) (sym (drop-drop (length xs) at bs)) ∙ sym (drop-take (length xs) (length ys) (drop at bs)) ∙ ap (drop (length xs)) (whole at xs ys p) ∙ drop_at xs ys (length xs) refl
 
-  pub bytes-part : Bytes bs → (at w : ℕ) → Bytes (part bs at w)
-  bytes-part b at w k =
+  pub bytes_part : Bytes bs → (at w : ℕ) → Bytes (part bs at w)
+  bytes_part b at w k =
       ⊎_elim (λ h. let e : get_or (part bs at w) k 0 ≡ get_or bs (at + k) 0 = get_or-take w (drop at bs) k 0 h ∙ get_or-drop at bs k 0 in let t = b (at + k) in omega arith)
       (λ h. let l = length-take w (drop at bs) in let e : get_or (part bs at w) k 0 ≡ 0 = get_or_past (part bs at w) k 0 (omega arith) in omega arith)
       (cases_lt k w)

@@ -1,20 +1,19 @@
 -- One turn of each loop over record numbers and blocks.
-use Rattle.std.proofs.Common.{◌≡◌, ℕ, zero, suc, ◌+◌, ◌-◌, ◌*◌, ◌<◌, ◌≤◌, Bool, true, false, cond, not, ◌&&◌, ◌||◌, eqb, ltb, List, [], ◌∷◌, ◌++◌, length, get_or, take, drop, set, is_some, Ok, Err, Result, sym, refl, ap, ◌∙◌, add_assoc, arith}
-use Rattle.std.proofs.lemmas.List.{at_drop_more, at_drop_all, take_rest, take_more_set, append_assoc}
+use Rattle.std.proofs.Common.{◌≡◌, ℕ, ◌+◌, ◌-◌, ◌*◌, ◌<◌, ◌≤◌, Bool, true, false, cond, not, ◌&&◌, ◌||◌, eqb, List, [], ◌∷◌, ◌++◌, length, get_or, take, drop, set, is_some, sym, ap, ◌∙◌, add_assoc, arith}
+use Rattle.std.proofs.lemmas.List.{at_drop_more, take_rest, take_more_set, append_assoc}
 use Rattle.std.proofs.lemmas.Bool.{eq-eqb, ne_eqb, lt-ltb, le-ltb}
 use Rattle.kinds.specs.Stamps.{Order}
 use Rattle.kinds.specs.Bytes.{number2, part}
 use Rattle.kinds.specs.Forms.{Form}
-use Rattle.archive.specs.declared.fault.Fault.{Fault}
 use Rattle.archive.specs.Faults.{onward}
 use Rattle.archive.specs.Directory.{read_pair}
 use Rattle.archive.specs.Names.{holds, all_below, apart, beyond, numbers}
 use Rattle.archive.specs.Blocks.{all_noted, stamp_at, read_block, read_blocks}
-use Rattle.archive.proofs.Counting.{at_left, at_end, last}
+use Rattle.archive.proofs.Counting.{at_left, last}
 
 module _ (xs : List ℕ) (i : ℕ) (h : i < length xs) where
-  pub holds-found : (x : ℕ) → x ≡ get_or xs i 0 → holds x (drop i xs) ≡ true
-  holds-found x e = at_drop_more (holds x) xs i 0 h ∙ ap (λ b. b || holds x (drop (i + 1) xs)) (eq-eqb _ _ e)
+  pub holds_found : (x : ℕ) → x ≡ get_or xs i 0 → holds x (drop i xs) ≡ true
+  holds_found x e = at_drop_more (holds x) xs i 0 h ∙ ap (λ b. b || holds x (drop (i + 1) xs)) (eq-eqb _ _ e)
 
   pub holds_passes : (x : ℕ) → (x ≡ get_or xs i 0 → ⊥) → holds x (drop i xs) ≡ holds x (drop (i + 1) xs)
   holds_passes x e = at_drop_more (holds x) xs i 0 h ∙ ap (λ b. b || holds x (drop (i + 1) xs)) (ne_eqb _ _ e)

@@ -5,7 +5,7 @@ use Rattle.kinds.specs.Bytes.{be4}
 use Rattle.kinds.specs.Forms.{Form}
 use Rattle.kinds.specs.Stamps.{Order}
 use Rattle.model.specs.declared.entry.Entry.{Entry}
-use Rattle.law.specs.Daybook.{Look, Put, line_of, looks_of, puts_of, accepted_job}
+use Rattle.law.specs.Daybook.{Look, line_of, looks_of, puts_of, accepted_job}
 use Rattle.archive.specs.Journal.{look_bytes, put_bytes, block_bytes}
 
 abbrev pub look_of : {S R : Type 0} → ℕ → S → R → Look S R

@@ -1,5 +1,5 @@
 -- The whole rule: heading, directory, opening values, blocks, and then the play.
-use Rattle.std.specs.Prelude.{ℕ, ◌+◌, ◌*◌, Bool, cond, not, ◌&&◌, List, Ok, Err, Result}
+use Rattle.std.specs.Prelude.{ℕ, ◌+◌, ◌*◌, List, Ok, Result}
 use Rattle.kinds.specs.Stamps.{Order}
 use Rattle.kinds.specs.Values.{RecordKind}
 use Rattle.archive.specs.declared.fault.Fault.{Fault}

@@ -1,12 +1,11 @@
 -- What is written for a registrar's tables.
-use Rattle.std.specs.Prelude.{ℕ, ◌+◌, ◌*◌, Bool, true, cond, ◌&&◌, List, [], ◌∷◌, ◌++◌, map, length, take, drop, nat_le, nat_lt}
+use Rattle.std.specs.Prelude.{ℕ, ◌*◌, Bool, true, ◌&&◌, List, [], ◌∷◌, map, take, drop, nat_le, nat_lt}
 use Rattle.std.specs.List.{flat_map}
 use Rattle.kinds.specs.Forms.{Form}
 use Rattle.kinds.specs.Stamps.{Order}
 use Rattle.model.specs.declared.entry.Entry.{Entry}
 use Rattle.registrar.specs.declared.journal.Head.{Head}
 use Rattle.law.specs.Daybook.{job_at}
-use Rattle.archive.specs.Directory.{pairs_bytes}
 use Rattle.archive.specs.Journal.{block_bytes, block_lengths}
 
 module _ {S R : Type 0} where

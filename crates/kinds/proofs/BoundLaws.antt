@@ -13,8 +13,8 @@ module _ {S : Type 0} (o : Order S) (laws : Ordered o) where
       by false e = record { first = le_refl o laws a; second = e }
 
   -- whatever equals the later of two keeps the law
-  pub later-told : (a b r : S) → r ≡ later o a b → LaterLaw o a b r
-  later-told a b r e = subst (LaterLaw o a b) (sym e) (later_law a b)
+  pub later_told : (a b r : S) → r ≡ later o a b → LaterLaw o a b r
+  later_told a b r e = subst (LaterLaw o a b) (sym e) (later_law a b)
 
   pub earlier_law : (u : Option S) (s : S) → EarlierLaw o u s (earlier o u s)
   earlier_law None s = record { bound = tt; stamp = le_refl o laws s }
@@ -24,5 +24,5 @@ module _ {S : Type 0} (o : Order S) (laws : Ordered o) where
       by true e = record { bound = lt_le o laws s u e; stamp = le_refl o laws s }
       by false e = record { bound = le_refl o laws u; stamp = e }
 
-  pub earlier-told : (u : Option S) (s r : S) → r ≡ earlier o u s → EarlierLaw o u s r
-  earlier-told u s r e = subst (EarlierLaw o u s) (sym e) (earlier_law u s)
+  pub earlier_told : (u : Option S) (s r : S) → r ≡ earlier o u s → EarlierLaw o u s r
+  earlier_told u s r e = subst (EarlierLaw o u s) (sym e) (earlier_law u s)

@@ -1,6 +1,6 @@
 -- What the laws of the order give for any stamp kind.
-use Rattle.std.proofs.Common.{◌≡◌, Bool, true, false, cond, not, ◌&&◌, ◌⊎◌, sym, refl, ◌∙◌, inl, inr, ⊎_elim}
-use Rattle.std.proofs.lemmas.Bool.{both_ways, cases_Bool, and_parts, and_from, not-true, not_from_false}
+use Rattle.std.proofs.Common.{◌≡◌, Bool, true, false, not, sym, refl, ⊎_elim}
+use Rattle.std.proofs.lemmas.Bool.{both_ways, and_parts, and_from, not-true, not_from_false}
 use Rattle.kinds.specs.Stamps.{Order, Ordered, Before, Same}
 use Rattle.kinds.specs.Bounds.{same, NotAfter}
 
@@ -27,8 +27,8 @@ module _ {S : Type 0} (o : Order S) (laws : Ordered o) where
   otherwise_same a b h k =
       ⊎_elim (λ x. absurd (both_ways (o.before a b) h x.0)) (⊎_elim (λ x. x.1) (λ x. absurd (both_ways (o.before b a) k x.2))) (laws.trichotomy a b)
 
-  pub same-told : (a b : S) → same o a b ≡ true → Same o a b
-  same-told a b e =
+  pub same_told : (a b : S) → same o a b ≡ true → Same o a b
+  same_told a b e =
       let h = and_parts (not (o.before a b)) (not (o.before b a)) e in
       otherwise_same a b (not-true (o.before a b) h.0) (not-true (o.before b a) h.1)
 

@@ -1,5 +1,5 @@
 -- Bounds, for any stamp kind.
-use Rattle.std.specs.Prelude.{◌≡◌, Bool, true, false, cond, not, ◌&&◌, Some, None, Option}
+use Rattle.std.specs.Prelude.{◌≡◌, Bool, false, cond, not, ◌&&◌, Some, None, Option}
 use Rattle.kinds.specs.Stamps.{Order}
 
 -- the later of two stamps; of two that are the same, the first

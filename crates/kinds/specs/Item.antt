@@ -1,5 +1,5 @@
 -- Items: withdrawn, a solid, or a sub-assembly.
-use Rattle.std.specs.Prelude.{ℕ, ◌%◌, max, Bool, cond, ◌&&◌, List, [], ◌∷◌, ◌++◌, drop, Some, None, Option, ◌==◌, slice_index}
+use Rattle.std.specs.Prelude.{ℕ, ◌%◌, max, cond, ◌&&◌, List, [], ◌∷◌, ◌++◌, drop, Some, None, Option, ◌==◌, slice_index}
 use Rattle.kinds.specs.Bytes.{be2, be4, number2, number4, part}
 use Rattle.kinds.specs.Values.{RecordKind}
 use Rattle.kinds.specs.Card.{zero3}

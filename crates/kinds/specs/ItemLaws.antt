@@ -1,11 +1,11 @@
 -- Items keep the law of their form.
-use Rattle.std.specs.Prelude.{◌≡◌, ℕ, ◌+◌, ◌*◌, ◌/◌, ◌%◌, ◌<◌, max, Bool, true, false, cond, ◌&&◌, List, [], ◌∷◌, ◌++◌, length, Some, None, Option, ◌==◌, refl}
+use Rattle.std.specs.Prelude.{◌≡◌, ℕ, ◌%◌, ◌<◌, Bool, true, cond, ◌&&◌, List, [], ◌∷◌, ◌++◌, length, Some, None, ◌==◌, refl}
 use Rattle.std.proofs.Common.{sym, ap, ◌∙◌, arith}
 use Rattle.std.specs.Option.{option_map}
 use Rattle.std.proofs.lemmas.Bool.Decides.{nat_tests}
 use Rattle.kinds.specs.Bytes.{Bytes, be2, be4, number2, number4}
 use Rattle.kinds.specs.Values.{Written}
-use Rattle.kinds.specs.Item.{counted, item_tag, item_listed, item_written, item_read, item_of, item_kind}
+use Rattle.kinds.specs.Item.{counted, item_tag, item_listed, item_written, item_read, item_kind}
 use Rattle.kinds.specs.declared.item.Item.{Item}
 use Rattle.kinds.specs.declared.item.Item.TheVariants.{Withdrawn, Solid, SubAssembly}
 use Rattle.kinds.specs.ByteLaws.{Twelve, of_twelve, bytes_be2, bytes_be4, bytes_cons, bytes_append, bytes_zero3, bytes_nil, again2, again4, wrap2, back2, wrap4, forth2, forth4}

@@ -1,12 +1,11 @@
 -- Whole stamps show the laws.
-use Rattle.std.specs.Prelude.{◌≡◌, ℕ, ◌^◌, ◌<◌, Bool, true, false, ◌⊎◌, List, length, Some, None, Option, refl}
+use Rattle.std.specs.Prelude.{◌≡◌, ℕ, ◌^◌, ◌<◌, List, length, Some, None, Option, refl}
 use Rattle.std.proofs.Common.{sym, ap, ◌∙◌, inl, inr, ⊎_elim, arith}
 use Rattle.std.specs.Option.{option_map}
 use Rattle.std.proofs.lemmas.Bool.Decides.{nat_tests}
 use Rattle.kinds.specs.Bytes.{Bytes, be8, number8}
-use Rattle.kinds.specs.Forms.{Formed}
-use Rattle.kinds.specs.Stamps.{Lawful, Ordered, Picks, OneOf, Before, Same, SameBound, Between}
-use Rattle.kinds.specs.Whole.{whole, counted, whole_before, whole_of, whole_pick, whole_written, whole_read, whole_order, whole_kind}
+use Rattle.kinds.specs.Stamps.{Lawful, OneOf, Before, Same, SameBound, Between}
+use Rattle.kinds.specs.Whole.{whole, counted, whole_of, whole_pick, whole_written, whole_read, whole_order, whole_kind}
 use Rattle.kinds.specs.declared.whole.Whole.{Whole}
 use Rattle.kinds.specs.ByteLaws.{bytes_be8, back8, forth8}
 

@@ -1,30 +1,27 @@
 -- What an acceptance shows, and that rows, accepted jobs and waiting jobs keep what they keep.
-use Rattle.std.proofs.Common.{◌≡◌, ℕ, ◌<◌, ◌≤◌, Bool, true, false, cond, not, ◌&&◌, ◌||◌, ◌⊎◌, List, [], ◌∷◌, ◌++◌, map, length, take, Some, None, Option, sym, refl, ap, ◌∙◌, subst, inl, inr, ⊎_elim, arith}
+use Rattle.std.proofs.Common.{◌≡◌, ℕ, ◌<◌, Bool, true, false, ◌⊎◌, List, [], ◌∷◌, ◌++◌, length, take, Some, None, Option, sym, refl, ap, ◌∙◌, subst, inl, inr, ⊎_elim, arith}
 use Rattle.std.specs.Option.{option_map}
 use Rattle.std.specs.List.{AllByRecursion, slice_get}
 use Rattle.std.proofs.lemmas.Bool.{false≢true, cases_Bool}
-use Rattle.std.proofs.ByRecursion.{All-weaker}
-use Rattle.std.proofs.lemmas.Option.{slice_get_past}
 use Rattle.kinds.specs.Stamps.{Order, Ordered, Kind, Lawful}
-use Rattle.kinds.specs.Bounds.{later, same}
+use Rattle.kinds.specs.Bounds.{later}
 use Rattle.model.specs.declared.entry.Entry.{Entry}
 use Rattle.model.specs.declared.row.Row.{Row}
-use Rattle.model.specs.declared.verdict.Verdict.{Verdict}
-use Rattle.model.specs.declared.verdict.Verdict.TheVariants.{Accepted, Overtaken, Gone, NoPlace}
+use Rattle.model.specs.declared.verdict.Verdict.TheVariants.{Accepted}
 use Rattle.model.specs.Rows.{Stood, stood, write_of, older, with_put, with_look}
 use Rattle.station.specs.Station.{narrowed}
-use Rattle.registrar.specs.Deciding.{Waiting, follows_in, following, bounded_by, and_then, upper_bound, last_use, lower_bound, overtaken, placed, within, unless_overtaken, verdict_on, look_noted, rows_after, firsts_after, first_kept}
-use Rattle.law.specs.Daybook.{Look, AcceptedJob, accepted_job, looks_of, puts_of}
+use Rattle.registrar.specs.Deciding.{Waiting, following, bounded_by, and_then, upper_bound, last_use, lower_bound, placed, within, unless_overtaken, first_kept}
+use Rattle.law.specs.Daybook.{Look, AcceptedJob, accepted_job}
 use Rattle.law.specs.Account.{put_of}
-use Rattle.law.proofs.StampOrder.{some-none, some_inj, Lt, Le, le_refl, lt_le, le_trans, lt_le_trans, le_lt_trans, least_le, later_left, later_right, Under, narrowed_new, narrowed_old, pick-after, pick_under}
+use Rattle.law.proofs.StampOrder.{some_none, some_inj, Lt, Le, le_refl, lt_le, le_trans, lt_le_trans, le_lt_trans, least_le, later_left, later_right, Under, narrowed_new, narrowed_old, pick_after, pick_under}
 use Rattle.law.proofs.Members.{In, in_none, in_cons, in_left, in_push, all_in, pairs_push}
-use Rattle.law.proofs.Views.{leaf, Distinct, looks_at, accepted_row, put-by, first_by}
-use Rattle.law.proofs.Leaves.{look_from, put_from, looked_if}
-use Rattle.law.proofs.Plays.{Fair, FairBoth, Wrote, Origin, origin_in, Sound}
-use Rattle.law.proofs.History.{Passed, Since, Versions, Grown, passed_on, RowOk, Located, located, grown_by, row_left, row_put}
-use Rattle.law.proofs.Bounds.{lower_over, lower-put}
-use Rattle.law.proofs.Jobs.{Closed, SeenOk, EntryOk}
-use Rattle.law.proofs.RowLaws.{nth-some, write_put, value-put, read-put, older-put, rows_after_at, firsts_after_at}
+use Rattle.law.proofs.Views.{leaf, accepted_row, first_by}
+use Rattle.law.proofs.Leaves.{look_from, put_from}
+use Rattle.law.proofs.Plays.{FairBoth, Wrote, Origin, origin_in, Sound}
+use Rattle.law.proofs.History.{Passed, Versions, RowOk, Located, located, row_left, row_put}
+use Rattle.law.proofs.Bounds.{lower_over, lower_put}
+use Rattle.law.proofs.Jobs.{SeenOk, EntryOk}
+use Rattle.law.proofs.RowLaws.{nth_some, write_put, value_put, read_put, older_put}
 
 -- what the tables hold at a record; past their end the least stamp and nothing else
 module _ {S R : Type 0} (o : Order S) where
@@ -68,14 +65,14 @@ module _ {S : Type 0} (k : Kind S) where
     pub is : found ≡ Some upper
     pub picks : k.pick lower upper ≡ Some s
 
-  placed-some : (lower : S) (u p : Option S) (s : S) → k.pick lower u ≡ p → placed p ≡ Accepted s → k.pick lower u ≡ Some s
-  placed-some lower u None s q e = let z : ◌≡◌ {A = ℕ} 0 1 = cc in absurd (let y : ⊥ = omega arith in y)
-  placed-some lower u (Some t) s q e = let y : t ≡ s = cc in q ∙ ap (λ (z : S). Some z) y
+  placed_some : (lower : S) (u p : Option S) (s : S) → k.pick lower u ≡ p → placed p ≡ Accepted s → k.pick lower u ≡ Some s
+  placed_some lower u None s q e = let z : ◌≡◌ {A = ℕ} 0 1 = cc in absurd (let y : ⊥ = omega arith in y)
+  placed_some lower u (Some t) s q e = let y : t ≡ s = cc in q ∙ ap (λ (z : S). Some z) y
 
-  pub accepted-by : (b : Bool) (lower : S) (found : Option (Option S)) (s : S) → unless_overtaken b (within k lower found) ≡ Accepted s → Picked lower found s
-  accepted-by true lower found s e = let z : ◌≡◌ {A = ℕ} 0 1 = cc in absurd (let y : ⊥ = omega arith in y)
-  accepted-by false lower None s e = let z : ◌≡◌ {A = ℕ} 0 1 = cc in absurd (let y : ⊥ = omega arith in y)
-  accepted-by false lower (Some u) s e = record { upper = u; is = refl; picks = placed-some lower u (k.pick lower u) s refl e }
+  pub accepted_by : (b : Bool) (lower : S) (found : Option (Option S)) (s : S) → unless_overtaken b (within k lower found) ≡ Accepted s → Picked lower found s
+  accepted_by true lower found s e = let z : ◌≡◌ {A = ℕ} 0 1 = cc in absurd (let y : ⊥ = omega arith in y)
+  accepted_by false lower None s e = let z : ◌≡◌ {A = ℕ} 0 1 = cc in absurd (let y : ⊥ = omega arith in y)
+  accepted_by false lower (Some u) s e = record { upper = u; is = refl; picks = placed_some lower u (k.pick lower u) s refl e }
 
 module _ {S R : Type 0} (o : Order S) (laws : Ordered o) (rows : List (Row S R)) where
   bounded_old : (es : List (Entry S R)) (u bound : Option S) (g : S) → upper_bound o rows es u ≡ Some bound → Under o laws u g → Under o laws bound g
@@ -84,7 +81,7 @@ module _ {S R : Type 0} (o : Order S) (laws : Ordered o) (rows : List (Row S R))
     where
       by : (b : Bool) (p : Option (Option S)) → and_then (upper_bound o rows fs) (bounded_by o b p u) ≡ Some bound → ((v : Option S) → upper_bound o rows fs v ≡ Some bound → Under o laws v g → Under o laws bound g) → Under o laws bound g
       by false p e ih = ih u e h
-      by true None e ih = absurd (some-none (sym e))
+      by true None e ih = absurd (some_none (sym e))
       by true (Some next) e ih = ih (narrowed o u next) e (narrowed_old o laws u next g h)
 
   -- an open entry's stamp was found, and the bound is not after what follows it
@@ -100,7 +97,7 @@ module _ {S R : Type 0} (o : Order S) (laws : Ordered o) (rows : List (Row S R))
       by : (b : Bool) → f.opened ≡ b → (t : Option (Option S)) → following o f.noted (slice_get rows f.number) ≡ t → and_then (upper_bound o rows fs) (bounded_by o b t u) ≡ Some bound → ((v : Option S) → upper_bound o rows fs v ≡ Some bound → In e fs → e.opened ≡ true → Placed bound e) → (e ≡ f) ⊎ In e fs → Placed bound e
       by false c t r q ih (inl h) = absurd (false≢true (sym c ∙ ap (λ (z : Entry S R). z.opened) (sym h) ∙ p))
       by false c t r q ih (inr n) = ih u q n p
-      by true c None r q ih m = absurd (some-none (sym q))
+      by true c None r q ih m = absurd (some_none (sym q))
       by true c (Some next) r q ih (inl h) =
           record {
             next = next;
@@ -118,8 +115,8 @@ module _ {S R : Type 0} (o : Order S) (values : List R) (jobs : List (AcceptedJo
     pub over_write : (x : ℕ) (v : R) → put_of x d.puts ≡ Some v → Lt o (top_at o rows x) d.stamp
     pub over_read : (x : ℕ) (v : R) → put_of x d.puts ≡ Some v → Lt o (read_at o rows x) d.stamp
     pub risen : Lt o o.least d.stamp
-    pub puts-inside : (x : ℕ) (v : R) → put_of x d.puts ≡ Some v → x < length values
-    pub looks-inside : (l : Look S R) → In l d.looks → l.number < length values
+    pub puts_inside : (x : ℕ) (v : R) → put_of x d.puts ≡ Some v → x < length values
+    pub looks_inside : (l : Look S R) → In l d.looks → l.number < length values
 
   -- what the register keeps of the accepted jobs; last is what the last image showed
   pub record RowsOk (last : ℕ → Option (Stood S R)) (rows : List (Row S R)) (firsts : List (Option S)) : Type 0 where
@@ -129,7 +126,7 @@ module _ {S R : Type 0} (o : Order S) (values : List R) (jobs : List (AcceptedJo
 -- a job that is accepted fits
 module _ {S R : Type 0} (k : Kind S) (laws : Lawful k) (values : List R) (jobs : List (AcceptedJob S R)) (last : ℕ → Option (Stood S R)) (rows : List (Row S R)) (firsts : List (Option S)) (size : length rows ≡ length values) (ok : RowsOk k.order values jobs last rows firsts) (shown : ℕ → Option (Stood S R)) (w : Waiting S R) (entries-ok : AllByRecursion (EntryOk k.order values jobs (top_at k.order rows) shown w.lower w.upper) w.entries) (inside : AllByRecursion (λ (e : Entry S R). e.number < length values) w.entries) (s : S) (p : Picked k (lower_bound k.order rows w.entries w.lower) (upper_bound k.order rows w.entries w.upper) s) where
   above : (a : S) → Le k.order a (lower_bound k.order rows w.entries w.lower) → Lt k.order a s
-  above a l = le_lt_trans k.order laws.ordered a (lower_bound k.order rows w.entries w.lower) s l (pick-after k laws (lower_bound k.order rows w.entries w.lower) p.upper s p.picks)
+  above a l = le_lt_trans k.order laws.ordered a (lower_bound k.order rows w.entries w.lower) s l (pick_after k laws (lower_bound k.order rows w.entries w.lower) p.upper s p.picks)
 
   below : (g : S) → Under k.order laws.ordered p.upper g → Lt k.order s g
   below g u = pick_under k laws (lower_bound k.order rows w.entries w.lower) p.upper s g p.picks u
@@ -145,14 +142,14 @@ module _ {S R : Type 0} (k : Kind S) (laws : Lawful k) (values : List R) (jobs :
   found_at noted x next e = by (slice_get rows x) (ok.row x).versions e
     where
       by : (r : Option (Row S R)) → Versions k.order jobs x (top_in k.order r) (top_in k.order r) (older_in r) → following k.order noted r ≡ Some next → Located k.order laws.ordered jobs x (top_in k.order r) noted next
-      by None h e = absurd (some-none (sym e))
+      by None h e = absurd (some_none (sym e))
       by (Some r) h e = located k.order laws.ordered jobs x (write_of r) noted (older r) h next e
 
   entry_clear : (e : Entry S R) → In e w.entries → e.seen ≡ true → (t : Stood S R) → Wrote jobs e.number t → Le k.order t.stamp e.noted ⊎ Lt k.order s t.stamp
-  entry_clear e m q t h = ⊎_elim when_open when-closed (cases_Bool e.opened)
+  entry_clear e m q t h = ⊎_elim when_open when_closed (cases_Bool e.opened)
     where
-      when-closed : e.opened ≡ false → Le k.order t.stamp e.noted ⊎ Lt k.order s t.stamp
-      when-closed c =
+      when_closed : e.opened ≡ false → Le k.order t.stamp e.noted ⊎ Lt k.order s t.stamp
+      when_closed c =
           let z = (seen e m q).shuts c in
           gap_below e.number e.noted z.bound z.passed
           (below z.bound (bounded_old k.order laws.ordered rows w.entries w.upper p.upper z.bound p.is (record { bound = z.bound; is = z.is; low = le_refl k.order laws.ordered z.bound }))) t h
@@ -174,13 +171,13 @@ module _ {S R : Type 0} (k : Kind S) (laws : Lawful k) (values : List R) (jobs :
   over : (e : Entry S R) → In e w.entries → e.put ≡ true → Over e
   over e m q =
       let l : e.number < length values = all_in (λ (e : Entry S R). e.number < length values) m inside in
-      let r = nth-some rows e.number (omega arith) in
+      let r = nth_some rows e.number (omega arith) in
       by (slice_get rows e.number) refl r.0 r.1
     where
       by : (t : Option (Row S R)) → slice_get rows e.number ≡ t → (r : Row S R) → t ≡ Some r → Over e
-      by None a r b = absurd (some-none (sym b))
+      by None a r b = absurd (some_none (sym b))
       by (Some t) a r b =
-          let up : Le k.order (later k.order t.read (write_of t)) (lower_bound k.order rows w.entries w.lower) = lower-put k.order laws.ordered (λ x. last_use k.order (slice_get rows x)) w.entries w.lower e (later k.order t.read (write_of t)) m q (ap (last_use k.order) a) in
+          let up : Le k.order (later k.order t.read (write_of t)) (lower_bound k.order rows w.entries w.lower) = lower_put k.order laws.ordered (λ x. last_use k.order (slice_get rows x)) w.entries w.lower e (later k.order t.read (write_of t)) m q (ap (last_use k.order) a) in
           record {
             write = subst (λ (z : Option (Row S R)). Lt k.order (top_in k.order z) s) (sym a) (above (write_of t) (le_trans k.order laws.ordered _ _ _ (later_right k.order laws.ordered t.read (write_of t)) up));
             read = subst (λ (z : Option (Row S R)). Lt k.order (read_in k.order z) s) (sym a) (above t.read (le_trans k.order laws.ordered _ _ _ (later_left k.order laws.ordered t.read (write_of t)) up));
@@ -195,8 +192,8 @@ module _ {S R : Type 0} (k : Kind S) (laws : Lawful k) (values : List R) (jobs :
         over_write = λ x v q. let h = put_from w.entries x v q in subst (λ (z : ℕ). Lt k.order (top_at k.order rows z) s) (sym h.is) (over h.entry h.member h.is_put).write;
         over_read = λ x v q. let h = put_from w.entries x v q in subst (λ (z : ℕ). Lt k.order (read_at k.order rows z) s) (sym h.is) (over h.entry h.member h.is_put).read;
         risen = above k.order.least (least_le k.order laws.ordered (lower_bound k.order rows w.entries w.lower));
-        puts-inside = λ x v q. let h = put_from w.entries x v q in subst (λ (z : ℕ). z < length values) (sym h.is) (all_in (λ (e : Entry S R). e.number < length values) h.member inside);
-        looks-inside = λ l m. let h = look_from w.entries l m in subst (λ (z : Look S R). z.number < length values) (sym h.is) (all_in (λ (e : Entry S R). e.number < length values) h.member inside);
+        puts_inside = λ x v q. let h = put_from w.entries x v q in subst (λ (z : ℕ). z < length values) (sym h.is) (all_in (λ (e : Entry S R). e.number < length values) h.member inside);
+        looks_inside = λ l m. let h = look_from w.entries l m in subst (λ (z : Look S R). z.number < length values) (sym h.is) (all_in (λ (e : Entry S R). e.number < length values) h.member inside);
       }
 
 -- a job that fits joins the accepted ones
@@ -230,7 +227,7 @@ module _ {S R : Type 0} (o : Order S) (laws : Ordered o) (values : List R) (jobs
       left r g h e = row_left o laws jobs d values x (last x) (option_map stood r) (top_in o r) (older_in r) (first_in g) h e
 
       none_of : (v : R) → put_of x d.puts ≡ Some v → put_of x d.puts ≡ None → ⊥
-      none_of v e n = some-none (sym e ∙ n)
+      none_of v e n = some_none (sym e ∙ n)
 
       written : (t : Row S R) (u : Row S R) (v : R) (g : Option S) → (u.value ≡ v) → write_of u ≡ d.stamp → older u ≡ take 3 (write_of t ∷ older t) → RowOk o values (jobs ++ (d ∷ [])) x (last x) (Some (record { value = v; stamp = d.stamp })) d.stamp (take 3 (write_of t ∷ older t)) (first_kept d.stamp g) → After x (Some u) (Some (first_kept d.stamp g))
       written t u v g a b c h =
@@ -240,7 +237,7 @@ module _ {S R : Type 0} (o : Order S) (laws : Ordered o) (values : List R) (jobs
 
       put : (t : Row S R) (g : Option S) (v : R) → put_of x d.puts ≡ Some v → RowOk o values jobs x (last x) (Some (stood t)) (write_of t) (older t) g → Lt o (write_of t) d.stamp → After x (Some (with_put v d.stamp t)) (Some (first_kept d.stamp g))
       put t g v e h l =
-          written t (with_put v d.stamp t) v g (value-put v d.stamp t) (write_put v d.stamp t) (older-put v d.stamp t)
+          written t (with_put v d.stamp t) v g (value_put v d.stamp t) (write_put v d.stamp t) (older_put v d.stamp t)
           (row_put o laws jobs d values x (last x) (Some (stood t)) (write_of t) (older t) g h v e l)
 
       by : (b : Bool) (p : Option R) → put_of x d.puts ≡ p → (r : Option (Row S R)) (g : Option (Option S)) → RowOk o values jobs x (last x) (option_map stood r) (top_in o r) (older_in r) (first_in g) → ((v : R) → put_of x d.puts ≡ Some v → Lt o (top_in o r) d.stamp) → (r ≡ None → put_of x d.puts ≡ None) → (g ≡ None → put_of x d.puts ≡ None) → After x (option_map (accepted_row o d.stamp p b) r) (option_map (first_by d.stamp p) g)
@@ -270,9 +267,9 @@ module _ {S R : Type 0} (o : Order S) (laws : Ordered o) (values : List R) (jobs
   read_rises b p None = le_refl o laws o.least
   read_rises true None (Some t) = later_left o laws t.read d.stamp
   read_rises false None (Some t) = le_refl o laws t.read
-  read_rises true (Some v) (Some t) = subst (λ (z : S). Le o t.read z) (sym (read-put v d.stamp (with_look o d.stamp t))) (later_left o laws t.read d.stamp)
-  read_rises false (Some v) (Some t) = subst (λ (z : S). Le o t.read z) (sym (read-put v d.stamp t)) (le_refl o laws t.read)
+  read_rises true (Some v) (Some t) = subst (λ (z : S). Le o t.read z) (sym (read_put v d.stamp (with_look o d.stamp t))) (later_left o laws t.read d.stamp)
+  read_rises false (Some v) (Some t) = subst (λ (z : S). Le o t.read z) (sym (read_put v d.stamp t)) (le_refl o laws t.read)
 
   pub read_raised : (p : Option R) (t : Row S R) → Le o d.stamp (read_in o (Some (accepted_row o d.stamp p true t)))
   read_raised None t = later_right o laws t.read d.stamp
-  read_raised (Some v) t = subst (λ (z : S). Le o d.stamp z) (sym (read-put v d.stamp (with_look o d.stamp t))) (later_right o laws t.read d.stamp)
+  read_raised (Some v) t = subst (λ (z : S). Le o d.stamp z) (sym (read_put v d.stamp (with_look o d.stamp t))) (later_right o laws t.read d.stamp)

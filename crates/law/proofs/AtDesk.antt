@@ -1,22 +1,19 @@
 -- Open, look, put and tune keep what every run keeps.
-use Rattle.std.proofs.Common.{◌≡◌, ℕ, zero, suc, ◌+◌, ◌<◌, ◌≤◌, Bool, true, false, cond, not, ◌&&◌, eqb, ◌⊎◌, List, [], ◌∷◌, ◌++◌, map, length, Some, None, Ok, Err, Option, Result, sym, refl, ap, ◌∙◌, subst, inl, inr, ⊎_elim, arith}
+use Rattle.std.proofs.Common.{◌≡◌, ℕ, zero, suc, ◌+◌, ◌≤◌, Bool, true, false, cond, ◌&&◌, List, [], length, Some, None, Ok, Err, Option, Result, sym, refl, ap, ◌∙◌, subst, inl, arith}
 use Rattle.std.specs.Option.{option_map}
 use Rattle.std.specs.List.{slice_get}
 use Rattle.std.proofs.lemmas.Bool.{eqb-true, and_parts}
-use Rattle.kinds.specs.Stamps.{Order, Kind, Lawful}
+use Rattle.kinds.specs.Stamps.{Kind, Lawful}
 use Rattle.model.specs.declared.entry.Entry.{Entry}
-use Rattle.model.specs.declared.image.ImageRow.{ImageRow}
-use Rattle.station.specs.declared.job.Job.{Job}
-use Rattle.station.specs.declared.job.Standing.{Standing}
-use Rattle.station.specs.declared.job.Standing.TheVariants.{Live, Shut}
+use Rattle.station.specs.declared.job.Standing.TheVariants.{Live}
 use Rattle.model.specs.declared.refusal.Refusal.{Refusal}
 use Rattle.model.specs.declared.refusal.Refusal.TheVariants.{WrongTables}
 use Rattle.model.specs.Rows.{Stood}
 use Rattle.model.specs.Tables.{sized}
-use Rattle.station.specs.Station.{Image, image_sized, Work, Acted, Station, Answered, work_of, put_back, carried_out, if_sized, open_refused, opened_unless, open_job, look_work, look_job, put_work, put_job, tune_work, tune_job, first_write}
+use Rattle.station.specs.Station.{Image, image_sized, Work, Acted, Station, work_of, put_back, carried_out, open_refused, opened_unless, open_job, look_work, look_job, put_work, put_job, tune_work, tune_job, first_write}
 use Rattle.law.specs.Daybook.{Daybook, Line, with_leaf, has_line, line_looked, line_put}
-use Rattle.law.specs.Runs.{Desk, Next, Answer, refused, done, shown, stands, image_numbered, with_job, none_made, given, standing_at, after_open, answer_of, after_call, is_done, shown_of, write_in, write_given, noted}
-use Rattle.law.proofs.StampOrder.{some-none, some_inj}
+use Rattle.law.specs.Runs.{Desk, done, shown, stands, image_numbered, with_job, given, after_open, answer_of, after_call, is_done, shown_of, write_in, write_given, noted}
+use Rattle.law.proofs.StampOrder.{some_none, some_inj}
 use Rattle.law.proofs.Views.{leaf}
 use Rattle.law.proofs.Stations.{unaltered}
 use Rattle.law.proofs.History.{Since}
@@ -24,17 +21,17 @@ use Rattle.law.proofs.Jobs.{row_stood}
 use Rattle.law.proofs.AtStations.{Kept, LookKept, look_kept, PutKept, put_kept, TuneKept, tune_kept}
 use Rattle.law.proofs.Acceptance.{top_at}
 use Rattle.law.proofs.RowLaws.{nth_inside}
-use Rattle.law.proofs.Invariant.{shown_by, shown_in, ImageOk, StationOk, Inv, reseat, leaf_here, leaf_there, Back, back}
+use Rattle.law.proofs.Invariant.{shown_by, shown_in, StationOk, Inv, reseat, leaf_here, leaf_there, Back, back}
 
 module _ {S R : Type 0} (k : Kind S) (laws : Lawful k) (values : List R) (d : Desk S R) (b : Daybook S R) (h : Inv k values d b) where
   abbrev SeatOk : Station S R → Type 0
   SeatOk t = StationOk k values b.accepted (top_at k.order d.registry.rows) d.images (length d.images) t
 
   -- a job at a place, with its leaf as it was or written anew
-  same-leaf : (j : ℕ) (t t' : Station S R) → d.jobs j ≡ Some t → SeatOk t' → leaf (work_of t').entries ≡ leaf (work_of t).entries → Inv k values (with_job d j (Some t')) b
-  same-leaf j t t' e ok l =
+  same_leaf : (j : ℕ) (t t' : Station S R) → d.jobs j ≡ Some t → SeatOk t' → leaf (work_of t').entries ≡ leaf (work_of t).entries → Inv k values (with_job d j (Some t')) b
+  same_leaf j t t' e ok l =
       reseat k values d b h j (Some t') b.leaves (λ u q. subst (λ (z : Station S R). SeatOk z) (some_inj q) ok)
-      (λ u q. h.job-leaf j t e ∙ sym l ∙ ap (λ (z : Station S R). leaf (work_of z).entries) (some_inj q)) (λ n q. refl)
+      (λ u q. h.job_leaf j t e ∙ sym l ∙ ap (λ (z : Station S R). leaf (work_of z).entries) (some_inj q)) (λ n q. refl)
 
   new_leaf : (j : ℕ) (t : Station S R) (l : List (Line S R)) → SeatOk t → l ≡ leaf (work_of t).entries → Inv k values (with_job d j (Some t)) (with_leaf b j l)
   new_leaf j t l ok e =
@@ -42,7 +39,7 @@ module _ {S R : Type 0} (k : Kind S) (laws : Lawful k) (values : List R) (d : De
       (λ u q. leaf_here b.leaves j l ∙ e ∙ ap (λ (z : Station S R). leaf (work_of z).entries) (some_inj q)) (leaf_there b.leaves j l)
 
   as_it_was : (j : ℕ) (t : Station S R) → d.jobs j ≡ Some t → Inv k values (with_job d j (Some t)) b
-  as_it_was j t e = same-leaf j t t e (h.job_ok j t e) refl
+  as_it_was j t e = same_leaf j t t e (h.job_ok j t e) refl
 
   -- an image that was published
   record Given (n : ℕ) (i : Image S R) : Type 0 where
@@ -53,7 +50,7 @@ module _ {S R : Type 0} (k : Kind S) (laws : Lawful k) (values : List R) (d : De
     since : (m : ℕ) → n ≡ m + 1 → (x : ℕ) → Since k.order b.accepted x (top_at k.order d.registry.rows x) (shown_in k.order values d.images m x) (shown_in k.order values d.images n x) (first_write i x)
 
   published : (n : ℕ) (i : Image S R) → image_numbered d.images n ≡ Some i → Given n i
-  published zero i e = absurd (some-none (sym e))
+  published zero i e = absurd (some_none (sym e))
   published (suc n) i e =
       let ok = h.images_ok n i e in
       let l = nth_inside d.images n i e in
@@ -87,8 +84,8 @@ module _ {S R : Type 0} (k : Kind S) (laws : Lawful k) (values : List R) (d : De
           refl
 
   -- a call at a station, by whether its tables have their lengths
-  sheet-sized : (t : Station S R) (i : Image S R) → (image_sized i && sized t.sheet 16) ≡ true → length t.sheet ≡ 16
-  sheet-sized t i e = eqb-true (length t.sheet) 16 (and_parts (image_sized i) (sized t.sheet 16) e).1
+  sheet_sized : (t : Station S R) (i : Image S R) → (image_sized i && sized t.sheet 16) ≡ true → length t.sheet ≡ 16
+  sheet_sized t i e = eqb-true (length t.sheet) 16 (and_parts (image_sized i) (sized t.sheet 16) e).1
 
   abbrev KeptBy : {A : Type 0} → Station S R → Acted S R A → Type 0
   KeptBy t a = Kept k laws values b.accepted (top_at k.order d.registry.rows) (shown_in k.order values d.images) (length d.images) (work_of t) a
@@ -123,10 +120,10 @@ module _ {S R : Type 0} (k : Kind S) (laws : Lawful k) (values : List R) (d : De
             let c = back_of t (look_work k (work_of t) i x) z (h.job_ok j t q) kept.kept in
             subst (λ (y : Option S). Inv k values (with_job d j (Some (put_back t (look_work k (work_of t) i x).work))) (noted (Some v) y j x b)) (sym (ap (λ (y : Option (Image S R)). write_given y x) e ∙ ap write_in l.1))
             (new_leaf j (put_back t (look_work k (work_of t) i x).work) _ c.ok
-            (ap (λ ls. line_looked (has_line x ls) x (record { value = v; stamp = l.0.write }) ls) (h.job-leaf j t q) ∙ l.2 ∙ sym (ap (λ (y : Work S R). leaf y.entries) c.works)))
+            (ap (λ ls. line_looked (has_line x ls) x (record { value = v; stamp = l.0.write }) ls) (h.job_leaf j t q) ∙ l.2 ∙ sym (ap (λ (y : Work S R). leaf y.entries) c.works)))
 
         by : (c : Bool) → (image_sized i && sized t.sheet 16) ≡ c → let m = after_call d j shown (cond c (carried_out t (look_work k (work_of t) i x)) (record { answer = Err WrongTables; station = t })) in Inv k values m.desk (noted (shown_of m.answer) (write_given (image_numbered d.images n) x) j x b)
-        by true c = answered (sheet-sized t i c) (look_work k (work_of t) i x).answer refl
+        by true c = answered (sheet_sized t i c) (look_work k (work_of t) i x).answer refl
         by false c = as_it_was j t q
 
     -- put
@@ -141,10 +138,10 @@ module _ {S R : Type 0} (k : Kind S) (laws : Lawful k) (values : List R) (d : De
         answered z (Ok u) s =
             let c = back_of t (put_work k (work_of t) i x v) z (h.job_ok j t q) kept.kept in
             new_leaf j (put_back t (put_work k (work_of t) i x v).work) _ c.ok
-            (ap (line_put x v) (h.job-leaf j t q) ∙ kept.line u s ∙ sym (ap (λ (y : Work S R). leaf y.entries) c.works))
+            (ap (line_put x v) (h.job_leaf j t q) ∙ kept.line u s ∙ sym (ap (λ (y : Work S R). leaf y.entries) c.works))
 
         by : (c : Bool) → (image_sized i && sized t.sheet 16) ≡ c → let m = after_call d j (λ u. done) (cond c (carried_out t (put_work k (work_of t) i x v)) (record { answer = Err WrongTables; station = t })) in Inv k values m.desk (cond (is_done m.answer) (with_leaf b j (line_put x v (b.leaves j))) b)
-        by true c = answered (sheet-sized t i c) (put_work k (work_of t) i x v).answer refl
+        by true c = answered (sheet_sized t i c) (put_work k (work_of t) i x v).answer refl
         by false c = as_it_was j t q
 
     -- tune
@@ -164,6 +161,6 @@ module _ {S R : Type 0} (k : Kind S) (laws : Lawful k) (values : List R) (d : De
 
         by : (c : Bool) → (image_sized i && sized t.sheet 16) ≡ c → Inv k values (after_call d j stands (cond c (carried_out t (tune_work k (work_of t) i)) (record { answer = Err WrongTables; station = t }))).desk b
         by true c =
-            let a = back_of t (tune_work k (work_of t) i) (sheet-sized t i c) (h.job_ok j t q) kept.kept in
-            same-leaf j t (put_back t (tune_work k (work_of t) i).work) q a.ok (ap (λ (y : Work S R). leaf y.entries) a.works ∙ kept.line)
+            let a = back_of t (tune_work k (work_of t) i) (sheet_sized t i c) (h.job_ok j t q) kept.kept in
+            same_leaf j t (put_back t (tune_work k (work_of t) i).work) q a.ok (ap (λ (y : Work S R). leaf y.entries) a.works ∙ kept.line)
         by false c = as_it_was j t q

@@ -1,42 +1,37 @@
 -- Submit, decide and publish keep what every run keeps.
-use Rattle.std.proofs.Common.{◌≡◌, ℕ, zero, suc, ◌+◌, ◌<◌, ◌≤◌, Bool, true, false, cond, not, ◌&&◌, ◌||◌, eqb, leb, ◌⊎◌, List, [], ◌∷◌, ◌++◌, map, length, take, replicate, Some, None, Ok, Err, Option, Result, sym, refl, ap, ◌∙◌, subst, inl, inr, ⊎_elim, add-zero, arith, length-append}
+use Rattle.std.proofs.Common.{◌≡◌, ℕ, ◌+◌, ◌<◌, Bool, true, false, cond, not, ◌&&◌, eqb, leb, List, [], ◌∷◌, ◌++◌, map, length, take, Some, None, Ok, Option, sym, refl, ap, ◌∙◌, subst, ⊎_elim, add-zero}
 use Rattle.std.specs.Option.{option_map}
-use Rattle.std.specs.List.{AllByRecursion, slice_get}
-use Rattle.std.proofs.lemmas.Bool.{eqb-true, leb-false, and_parts, not-false, cases_eq}
+use Rattle.std.specs.List.{slice_get}
+use Rattle.std.proofs.lemmas.Bool.{leb-false}
 use Rattle.std.proofs.lemmas.List.{append-nil}
-use Rattle.kinds.specs.Stamps.{Order, Kind, Lawful}
-use Rattle.model.specs.declared.entry.Entry.{Entry}
-use Rattle.model.specs.declared.row.Row.{Row}
-use Rattle.model.specs.declared.image.ImageRow.{ImageRow}
-use Rattle.model.specs.declared.verdict.Outcome.{Outcome}
+use Rattle.kinds.specs.Stamps.{Kind, Lawful}
 use Rattle.model.specs.declared.verdict.Verdict.{Verdict}
 use Rattle.model.specs.declared.verdict.Verdict.TheVariants.{Accepted, Overtaken, Gone, NoPlace}
 use Rattle.model.specs.declared.refusal.Refusal.{Refusal}
 use Rattle.model.specs.declared.refusal.Refusal.TheVariants.{WrongTables, JobShut, NoSuchRecord, QueueFull, NoneWaiting, JournalFull, OutcomesFull, CountEnded}
 use Rattle.model.specs.Refusals.{refused_if}
-use Rattle.model.specs.Rows.{Stood, stood, shown_row}
+use Rattle.model.specs.Rows.{Stood}
 use Rattle.model.specs.Tables.{sized}
 use Rattle.model.specs.Sheets.{beyond}
-use Rattle.station.specs.Station.{Image, Station, Work, work_of, is_shut, first_write, first_in}
+use Rattle.station.specs.Station.{Station, work_of, is_shut, first_write}
 use Rattle.registrar.specs.Deciding.{Waiting, verdict_on, overtaken, lower_bound, upper_bound}
-use Rattle.registrar.specs.Registry.{Registry, Settled, Published, registry_sized, queue_of, submit, submit_refused, submitted, unless, refuse, decided_own, oldest_beyond, none_waits, decide_refused, decide_oldest, decide, by_verdict, passed_over, taken_up, publish_refused, published_unless, image_of, cleared, shown_rows}
-use Rattle.law.specs.Daybook.{Line, LaidBy, Daybook, AcceptedJob, accepted_job, changed, laid_behind, stays, first_taken, journal_of}
-use Rattle.law.specs.Runs.{Desk, Next, Answer, refused, ticket, outcome, after_submit, after_decide, after_publish, ticket_of, verdict_of, laid_if, taken_if}
+use Rattle.registrar.specs.Registry.{Registry, registry_sized, queue_of, submit, submit_refused, submitted, unless, oldest_beyond, none_waits, decide_refused, decide_oldest, decide, by_verdict, passed_over, taken_up}
+use Rattle.law.specs.Daybook.{LaidBy, Daybook, AcceptedJob, accepted_job, changed, laid_behind, first_taken, journal_of}
+use Rattle.law.specs.Runs.{Desk, after_submit, after_decide, ticket_of, verdict_of, laid_if, taken_if}
 use Rattle.law.specs.Account.{FinalOrder}
-use Rattle.law.proofs.StampOrder.{some-none, some_inj}
+use Rattle.law.proofs.StampOrder.{some_none}
 use Rattle.law.proofs.Members.{In, in_left, in_push, here, there}
 use Rattle.law.proofs.Views.{leaf}
-use Rattle.law.proofs.Sizes.{sizes, sized-submitted, sized_passed, sized_taken, sized-cleared}
-use Rattle.law.proofs.Queues.{queue_kept, queue-submitted, queue_decided, handed_in}
-use Rattle.law.proofs.Journals.{PlacedBelow, journal-same, journal_taken, placed_taken}
-use Rattle.law.proofs.RowLaws.{nth-some, nth_inside, nth_of_replicate, length-shown, shown_there, shown_from}
-use Rattle.law.proofs.Plays.{Origin, origin_in}
-use Rattle.law.proofs.History.{Since, since_on, Grown}
+use Rattle.law.proofs.Sizes.{sizes, sized_submitted, sized_passed, sized_taken}
+use Rattle.law.proofs.Queues.{queue-submitted, queue_decided, handed_in}
+use Rattle.law.proofs.Journals.{PlacedBelow, journal_same, journal_taken, placed_taken}
+use Rattle.law.proofs.Plays.{origin_in}
+use Rattle.law.proofs.History.{since_on, Grown}
 use Rattle.law.proofs.FinalOrder.{final_enter}
-use Rattle.law.proofs.Jobs.{EntryOk, JobOk, refused_none, row_stood}
-use Rattle.law.proofs.Acceptance.{top_at, stood_at, first_at, Picked, accepted-by, Fits, fits, sound_push, RowsOk}
-use Rattle.law.proofs.Grows.{rows_grown, grown, entries-last}
-use Rattle.law.proofs.Invariant.{shown_by, shown_in, ImageOk, laid_of, WaitingOk, StationOk, Inv}
+use Rattle.law.proofs.Jobs.{refused_none, row_stood}
+use Rattle.law.proofs.Acceptance.{top_at, accepted_by, Fits, fits, sound_push}
+use Rattle.law.proofs.Grows.{rows_grown, grown, entries_last}
+use Rattle.law.proofs.Invariant.{shown_in, laid_of, WaitingOk, StationOk, Inv}
 
 module _ {S R : Type 0} where
   pub laid_push : (ws : List (Waiting S R)) (w : Waiting S R) → map laid_of ws ++ (laid_of w ∷ []) ≡ map laid_of (ws ++ (w ∷ []))
@@ -71,13 +66,13 @@ module _ {S R : Type 0} (k : Kind S) (laws : Lawful k) (values : List R) (d : De
   -- submit
   module _ (j : ℕ) (t : Station S R) (q : d.jobs j ≡ Some t) where
     gone : (n : ℕ) (u : Station S R) (c : Bool) → cond c None (d.jobs n) ≡ Some u → d.jobs n ≡ Some u
-    gone n u true e = absurd (some-none (sym e))
+    gone n u true e = absurd (some_none (sym e))
     gone n u false e = e
 
     taken_in : submit_refused d.registry t ≡ None → Inv k values (record { registry = submitted d.registry t; images = d.images; jobs = changed d.jobs j None }) (laid_behind b j (d.registry.own.tickets + 1))
     taken_in e =
         record {
-          sized = sized-submitted d.registry t h.sized ok.good.few;
+          sized = sized_submitted d.registry t h.sized ok.good.few;
           records = h.records;
           opening = h.opening;
           cycle = h.cycle;
@@ -87,12 +82,12 @@ module _ {S R : Type 0} (k : Kind S) (laws : Lawful k) (values : List R) (d : De
           image_origin = h.image_origin;
           image_since = h.image_since;
           job_ok = λ n u c. h.job_ok n u (gone n u (eqb j n) c);
-          job-leaf = λ n u c. h.job-leaf n u (gone n u (eqb j n) c);
+          job_leaf = λ n u c. h.job_leaf n u (gone n u (eqb j n) c);
           queue_ok = λ w m. ⊎_elim (h.queue_ok w) (λ c. subst (λ (z : Waiting S R). WaitingOk k values b.accepted (top_at k.order d.registry.rows) d.images (length d.images) z) (sym c) own_ok) (in_push (queue_of d.registry) (handed_in d.registry t) (subst (λ (z : List (Waiting S R)). In w z) now m));
           waiting = ap (λ ls. ls ++ (record { ticket = d.registry.own.tickets + 1; leaf = b.leaves j } ∷ [])) h.waiting
-              ∙ ap (λ l. map laid_of (queue_of d.registry) ++ (record { ticket = d.registry.own.tickets + 1; leaf = l } ∷ [])) (h.job-leaf j t q)
+              ∙ ap (λ l. map laid_of (queue_of d.registry) ++ (record { ticket = d.registry.own.tickets + 1; leaf = l } ∷ [])) (h.job_leaf j t q)
               ∙ laid_push (queue_of d.registry) (handed_in d.registry t) ∙ ap (map laid_of) (sym now);
-          journal = subst (λ (z : List (AcceptedJob S R)). FinalOrder k.order b.accepted z) (journal-same d.registry (submitted d.registry t) refl refl refl) h.journal;
+          journal = subst (λ (z : List (AcceptedJob S R)). FinalOrder k.order b.accepted z) (journal_same d.registry (submitted d.registry t) refl refl refl) h.journal;
           placed = h.placed;
         }
       where
@@ -137,10 +132,10 @@ module _ {S R : Type 0} (k : Kind S) (laws : Lawful k) (values : List R) (d : De
           image_origin = h.image_origin;
           image_since = h.image_since;
           job_ok = h.job_ok;
-          job-leaf = h.job-leaf;
+          job_leaf = h.job_leaf;
           queue_ok = λ u m. h.queue_ok u (subst (λ (z : List (Waiting S R)). In u z) (sym q) (there (subst (λ (z : List (Waiting S R)). In u z) now m)));
           waiting = ap (map laid_of) (sym now);
-          journal = subst (λ (z : List (AcceptedJob S R)). FinalOrder k.order b.accepted z) (journal-same d.registry (passed_over k d.registry w v) refl refl (sym (add-zero d.registry.own.jobs))) h.journal;
+          journal = subst (λ (z : List (AcceptedJob S R)). FinalOrder k.order b.accepted z) (journal_same d.registry (passed_over k d.registry w v) refl refl (sym (add-zero d.registry.own.jobs))) h.journal;
           placed = subst (λ n. PlacedBelow n (take n d.registry.heads)) (sym (add-zero d.registry.own.jobs)) h.placed;
         })
       where
@@ -148,12 +143,12 @@ module _ {S R : Type 0} (k : Kind S) (laws : Lawful k) (values : List R) (d : De
         now = queue_decided d.registry (passed_over k d.registry w v) 0 w ws h.sized refl refl refl q
 
     -- an accepted job fits the ones accepted before it
-    pub accepted-fits : (s : S) → verdict_on k d.registry.rows w ≡ Accepted s → Fits k.order values b.accepted d.registry.rows (accepted_job s w.ticket (leaf w.entries))
-    accepted-fits s e =
+    pub accepted_fits : (s : S) → verdict_on k d.registry.rows w ≡ Accepted s → Fits k.order values b.accepted d.registry.rows (accepted_job s w.ticket (leaf w.entries))
+    accepted_fits s e =
         let ok = h.queue_ok w first_in_line in
         fits k laws values b.accepted (shown_in k.order values d.images (length d.images)) d.registry.rows d.registry.firsts ((sizes d.registry h.sized).rows ∙ h.records) h.rows_ok
         (shown_in k.order values d.images ok.image) w ok.entries ok.inside s
-        (accepted-by k (overtaken k.order d.registry.rows w.entries) (lower_bound k.order d.registry.rows w.entries w.lower) (upper_bound k.order d.registry.rows w.entries w.upper) s e) w.ticket
+        (accepted_by k (overtaken k.order d.registry.rows w.entries) (lower_bound k.order d.registry.rows w.entries w.lower) (upper_bound k.order d.registry.rows w.entries w.upper) s e) w.ticket
 
     -- an acceptance
     taken_on : decide_refused k d.registry ≡ None → (s : S) → verdict_on k d.registry.rows w ≡ Accepted s → Inv k values (record { registry = taken_up k d.registry w s; images = d.images; jobs = d.jobs }) (record { leaves = b.leaves; waiting = map laid_of ws; accepted = b.accepted ++ (accepted_job s w.ticket (leaf w.entries) ∷ []) })
@@ -172,18 +167,18 @@ module _ {S R : Type 0} (k : Kind S) (laws : Lawful k) (values : List R) (d : De
             count = z.count;
             good = record {
               stands = z.good.stands;
-              entries = entries-last k.order laws.ordered values jobs more (top_at k.order g.rows) (top_at k.order (taken_up k g w s).rows) keeps up (shown_in k.order values d.images t.job.image) t.job.lower t.job.upper (work_of t).entries z.good.entries;
+              entries = entries_last k.order laws.ordered values jobs more (top_at k.order g.rows) (top_at k.order (taken_up k g w s).rows) keeps up (shown_in k.order values d.images t.job.image) t.job.lower t.job.upper (work_of t).entries z.good.entries;
               distinct = z.good.distinct;
               inside = z.good.inside;
               few = z.good.few;
               place = z.good.place;
             };
           };
-          job-leaf = h.job-leaf;
+          job_leaf = h.job_leaf;
           queue_ok = λ u m. let z = h.queue_ok u (subst (λ (z : List (Waiting S R)). In u z) (sym q) (there (subst (λ (z : List (Waiting S R)). In u z) now m))) in record {
             image = z.image;
             stands = z.stands;
-            entries = entries-last k.order laws.ordered values jobs more (top_at k.order g.rows) (top_at k.order (taken_up k g w s).rows) keeps up (shown_in k.order values d.images z.image) u.lower u.upper u.entries z.entries;
+            entries = entries_last k.order laws.ordered values jobs more (top_at k.order g.rows) (top_at k.order (taken_up k g w s).rows) keeps up (shown_in k.order values d.images z.image) u.lower u.upper u.entries z.entries;
             distinct = z.distinct;
             inside = z.inside;
             few = z.few;
@@ -221,7 +216,7 @@ module _ {S R : Type 0} (k : Kind S) (laws : Lawful k) (values : List R) (d : De
         room = journal_room k d.registry r
 
         f : Fits k.order values b.accepted d.registry.rows (accepted_job s w.ticket (leaf w.entries))
-        f = accepted-fits s e
+        f = accepted_fits s e
 
         keeps : (a : AcceptedJob S R) → In a b.accepted → In a more
         keeps a m = in_left (accepted_job s w.ticket (leaf w.entries) ∷ []) m

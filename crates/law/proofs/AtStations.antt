@@ -1,30 +1,30 @@
 -- Look, put and tune keep what a job keeps, and write the lines that the daybook writes.
-use Rattle.std.proofs.Common.{◌≡◌, ℕ, suc, ◌+◌, ◌<◌, ◌≤◌, Bool, true, false, cond, not, ◌&&◌, ◌||◌, eqb, leb, ◌≢◌, ◌⊎◌, List, [], ◌∷◌, ◌++◌, map, length, is_some, Some, None, Ok, Err, Option, Result, sym, refl, ap, ◌∙◌, subst, inl, inr, ⊎_elim, arith, length-append}
+use Rattle.std.proofs.Common.{◌≡◌, ℕ, ◌+◌, ◌<◌, ◌≤◌, Bool, true, false, cond, ◌&&◌, eqb, leb, List, [], ◌∷◌, ◌++◌, length, is_some, Some, None, Ok, Err, Option, sym, refl, ap, ◌∙◌, subst, inl, inr, arith, length-append}
 use Rattle.std.specs.Option.{option_map}
-use Rattle.std.specs.List.{AllByRecursion, slice_get}
+use Rattle.std.specs.List.{slice_get}
 use Rattle.std.proofs.lemmas.Bool.{eqb-true, leb-false, not-false, true≢false, false≢true}
 use Rattle.std.proofs.ByRecursion.{All-push, All-map}
-use Rattle.kinds.specs.Stamps.{Order, Ordered, Kind, Lawful}
+use Rattle.kinds.specs.Stamps.{Kind, Lawful}
 use Rattle.kinds.specs.Bounds.{later}
 use Rattle.model.specs.declared.entry.Entry.{Entry}
 use Rattle.model.specs.declared.image.ImageRow.{ImageRow}
 use Rattle.station.specs.declared.job.Standing.{Standing}
-use Rattle.station.specs.declared.job.Standing.TheVariants.{Live, Shut}
+use Rattle.station.specs.declared.job.Standing.TheVariants.{Shut}
 use Rattle.model.specs.declared.refusal.Refusal.{Refusal}
 use Rattle.model.specs.declared.refusal.Refusal.TheVariants.{JobShut, OtherImage, NotNextImage, NoSuchRecord, SheetFull, NoRoom}
 use Rattle.model.specs.Rows.{Stood}
-use Rattle.model.specs.Sheets.{find, looked, put_unseen, put_on, own_value, closed, beyond}
-use Rattle.station.specs.Station.{Image, Work, Acted, is_shut, bounded_below, shut_down, refuse, unless, if_room, of_row, at_image, sheet_room, look_lower, look_new, look_found, look_work, put_lower, put_bounded, put_again, put_found, put_work, first_write, read_stamp, struck, closed_by, upper_by, tune_lower, tune_upper, tuned, at_next, tune_work}
+use Rattle.model.specs.Sheets.{find, looked, put_unseen, put_on, closed}
+use Rattle.station.specs.Station.{Image, Work, Acted, is_shut, bounded_below, shut_down, refuse, unless, if_room, of_row, at_image, sheet_room, look_lower, look_new, look_found, look_work, put_lower, put_bounded, put_again, put_found, put_work, first_write, read_stamp, struck, closed_by, tune_lower, tune_upper, tuned, at_next, tune_work}
 use Rattle.law.specs.Daybook.{AcceptedJob, has_line, line_looked, line_put}
-use Rattle.law.proofs.StampOrder.{some-none, some_inj, Le, le_refl, le_trans, later_left, later_right, Under}
+use Rattle.law.proofs.StampOrder.{Le, le_refl, le_trans, later_left, later_right, Under}
 use Rattle.law.proofs.Members.{In, all_in, in_all}
-use Rattle.law.proofs.Views.{leaf, Distinct}
-use Rattle.law.proofs.Leaves.{line_if, put_again_line, put_new_line, look_line, leaf-closed, distinct_push}
+use Rattle.law.proofs.Views.{leaf}
+use Rattle.law.proofs.Leaves.{line_if, put_again_line, put_new_line, look_line, leaf_closed, distinct_push}
 use Rattle.law.proofs.Plays.{Origin}
 use Rattle.law.proofs.History.{Passed, Since, passed_under}
 use Rattle.law.proofs.Bounds.{upper_old, upper_new, lower_over}
 use Rattle.law.proofs.RowLaws.{nth_inside}
-use Rattle.law.proofs.Jobs.{refused_none, row_stood, Closed, SeenOk, EntryOk, HasPlace, JobOk, sheet-lower, sheet-put_on, numbers-put_on, put_on-length, put_on_distinct, closed-length, closed-number, closed_distinct}
+use Rattle.law.proofs.Jobs.{refused_none, row_stood, Closed, EntryOk, HasPlace, JobOk, sheet_lower, sheet-put_on, numbers-put_on, length-put_on, put_on_distinct, closed_length, closed_number, closed_distinct}
 
 pub not_ok : {A C : Type 0} {r : Refusal} {v : A} → Err r ≡ Ok v → C
 not_ok e = let z : ◌≡◌ {A = ℕ} 0 1 = cc in absurd (let y : ⊥ = omega arith in y)
@@ -76,7 +76,7 @@ module _ {S R : Type 0} (k : Kind S) (laws : Lawful k) (values : List R) (jobs :
           keeps = record {
             stands = ok.stands;
             entries = All-push (EntryOk k.order values jobs top (shown w.image) (look_lower k w row) w.upper) w.entries (looked x row)
-                (sheet-lower k.order laws.ordered values jobs top (shown w.image) w.lower (look_lower k w row) w.upper (later_left k.order laws.ordered w.lower row.write) w.entries ok.entries)
+                (sheet_lower k.order laws.ordered values jobs top (shown w.image) w.lower (look_lower k w row) w.upper (later_left k.order laws.ordered w.lower row.write) w.entries ok.entries)
                 (λ q. record {
                   origin = origin w.image ok.stands x (row_stood row) shown_row;
                   low = later_right k.order laws.ordered w.lower row.write;
@@ -105,8 +105,8 @@ module _ {S R : Type 0} (k : Kind S) (laws : Lawful k) (values : List R) (jobs :
       pub kept : Kept w a
       pub line : LookLine w i x a
 
-    look-refused : (x : ℕ) (r : Refusal) → LookKept x (refuse r w)
-    look-refused x r = record { kept = refused_kept w r ok; line = λ v q. not_ok q }
+    look_refused : (x : ℕ) (r : Refusal) → LookKept x (refuse r w)
+    look_refused x r = record { kept = refused_kept w r ok; line = λ v q. not_ok q }
 
     look_found_kept : (x : ℕ) (row : ImageRow S R) → i.number ≡ w.image → slice_get i.rows x ≡ Some row → (f : Option (Entry S R)) → find x w.entries ≡ f → LookKept x (look_found k f w x row)
     look_found_kept x row n e (Some f) h =
@@ -117,7 +117,7 @@ module _ {S R : Type 0} (k : Kind S) (laws : Lawful k) (values : List R) (jobs :
     look_found_kept x row n e None h = by (sheet_room w) refl
       where
         by : (r : Option Refusal) → sheet_room w ≡ r → LookKept x (unless r w (look_new k w x row))
-        by (Some r) q = look-refused x r
+        by (Some r) q = look_refused x r
         by None q =
             record {
               kept = look_new_kept x row n e h q (k.pick (look_lower k w row) w.upper) refl;
@@ -132,11 +132,11 @@ module _ {S R : Type 0} (k : Kind S) (laws : Lawful k) (values : List R) (jobs :
     look_kept x = by (at_image w i) refl
       where
         at_row : i.number ≡ w.image → (f : Option (ImageRow S R)) → slice_get i.rows x ≡ f → LookKept x (of_row f w (look_found k (find x w.entries) w x))
-        at_row n None e = look-refused x NoSuchRecord
+        at_row n None e = look_refused x NoSuchRecord
         at_row n (Some row) e = look_found_kept x row n e (find x w.entries) refl
 
         by : (r : Option Refusal) → at_image w i ≡ r → LookKept x (unless r w (of_row (slice_get i.rows x) w (look_found k (find x w.entries) w x)))
-        by (Some r) e = look-refused x r
+        by (Some r) e = look_refused x r
         by None e = at_row (at_its_image e) (slice_get i.rows x) refl
 
     -- put
@@ -159,7 +159,7 @@ module _ {S R : Type 0} (k : Kind S) (laws : Lawful k) (values : List R) (jobs :
             keeps = record {
               stands = ok.stands;
               entries = All-push (EntryOk k.order values jobs top (shown w.image) (put_lower k w row) w.upper) w.entries (put_unseen x row v)
-                  (sheet-lower k.order laws.ordered values jobs top (shown w.image) w.lower (put_lower k w row) w.upper (put_up row) w.entries ok.entries)
+                  (sheet_lower k.order laws.ordered values jobs top (shown w.image) w.lower (put_lower k w row) w.upper (put_up row) w.entries ok.entries)
                   (λ q. absurd (false≢true q));
               distinct = distinct_push w.entries (put_unseen x row v) ok.distinct f;
               inside = All-push (λ (a : Entry S R). a.number < length values) w.entries (put_unseen x row v) ok.inside (inside_row x row e);
@@ -180,13 +180,13 @@ module _ {S R : Type 0} (k : Kind S) (laws : Lawful k) (values : List R) (jobs :
             keeps = record {
               stands = ok.stands;
               entries = sheet-put_on k.order laws.ordered values jobs top (shown w.image) lower w.upper x v w.entries
-                  (sheet-lower k.order laws.ordered values jobs top (shown w.image) w.lower lower w.upper up w.entries ok.entries);
+                  (sheet_lower k.order laws.ordered values jobs top (shown w.image) w.lower lower w.upper up w.entries ok.entries);
               distinct = put_on_distinct x v w.entries ok.distinct;
               inside = numbers-put_on (λ n. n < length values) x v w.entries ok.inside;
-              few = let l = put_on-length x v w.entries in let m = ok.few in omega arith;
+              few = let l = length-put_on x v w.entries in let m = ok.few in omega arith;
               place = place;
             };
-            grows = let l = put_on-length x v w.entries in omega arith;
+            grows = let l = length-put_on x v w.entries in omega arith;
             unaltered = λ r q. not_err q;
           };
           line = λ u q. put_again_line x v w.entries e f;
@@ -295,14 +295,14 @@ module _ {S R : Type 0} (k : Kind S) (laws : Lawful k) (values : List R) (jobs :
               distinct = closed_distinct (first_write i) w.entries ok.distinct;
               inside = All-map (λ (e : Entry S R). e.number < length values) (closed_by (first_write i)) w.entries
                   (in_all (λ (e : Entry S R). (closed_by (first_write i) e).number < length values) w.entries
-                  (λ e m. subst (λ n. n < length values) (sym (closed-number (first_write i) e)) (all_in (λ (e : Entry S R). e.number < length values) m ok.inside)));
-              few = let l = closed-length (first_write i) w.entries in let m = ok.few in omega arith;
+                  (λ e m. subst (λ n. n < length values) (sym (closed_number (first_write i) e)) (all_in (λ (e : Entry S R). e.number < length values) m ok.inside)));
+              few = let l = closed_length (first_write i) w.entries in let m = ok.few in omega arith;
               place = inr (inr (room_if (k.pick (tune_lower k w i) (tune_upper k w i)) s e));
             };
-            grows = let l = closed-length (first_write i) w.entries in omega arith;
+            grows = let l = closed_length (first_write i) w.entries in omega arith;
             unaltered = λ r q. not_err q;
           };
-          line = leaf-closed (first_write i) w.entries;
+          line = leaf_closed (first_write i) w.entries;
         }
 
     at_the_next : at_next k w i ≡ None → i.number ≡ w.image + 1

@@ -1,11 +1,11 @@
 -- How tuning and deciding move the bounds of a job.
-use Rattle.std.proofs.Common.{◌≡◌, ℕ, Bool, true, false, cond, List, [], ◌∷◌, Some, None, Option, sym, refl, ap, ◌∙◌, subst, ⊎_elim}
+use Rattle.std.proofs.Common.{◌≡◌, ℕ, Bool, true, false, cond, List, [], ◌∷◌, Some, None, Option, sym, ap, ◌∙◌, subst, ⊎_elim}
 use Rattle.std.proofs.lemmas.Bool.{false≢true}
 use Rattle.kinds.specs.Stamps.{Order, Ordered}
 use Rattle.kinds.specs.Bounds.{later}
 use Rattle.model.specs.declared.entry.Entry.{Entry}
 use Rattle.station.specs.Station.{narrowed, lifted, upper_by, lower_by}
-use Rattle.law.proofs.StampOrder.{some-none, some_inj, Le, le_refl, le_trans, later_left, later_right, Under, narrowed_old, narrowed_new}
+use Rattle.law.proofs.StampOrder.{some_none, some_inj, Le, le_refl, le_trans, later_left, later_right, Under, narrowed_old, narrowed_new}
 use Rattle.law.proofs.Members.{In, in_none, in_cons}
 
 module _ {S R : Type 0} (o : Order S) (laws : Ordered o) where
@@ -34,7 +34,7 @@ module _ {S : Type 0} (o : Order S) (laws : Ordered o) where
   lifted_over lower (Some s) = later_left o laws lower s
 
   lifted_new : (lower : S) (s : Option S) (b : S) → s ≡ Some b → Le o b (lifted o lower s)
-  lifted_new lower None b e = absurd (some-none (sym e))
+  lifted_new lower None b e = absurd (some_none (sym e))
   lifted_new lower (Some s) b e = subst (λ (z : S). Le o z (later o lower s)) (some_inj e) (later_right o laws lower s)
 
 module _ {S R : Type 0} (o : Order S) (laws : Ordered o) where
@@ -47,11 +47,11 @@ module _ {S R : Type 0} (o : Order S) (laws : Ordered o) where
       by true = lifted_over o laws lower (stamp e.number)
       by false = le_refl o laws lower
 
-  pub lower-put : (stamp : ℕ → Option S) (es : List (Entry S R)) (lower : S) (e : Entry S R) (b : S) → In e es → e.put ≡ true → stamp e.number ≡ Some b → Le o b (lower_by o stamp es lower)
-  lower-put stamp [] lower e b m p q = in_none m
-  lower-put stamp (f ∷ fs) lower e b m p q =
+  pub lower_put : (stamp : ℕ → Option S) (es : List (Entry S R)) (lower : S) (e : Entry S R) (b : S) → In e es → e.put ≡ true → stamp e.number ≡ Some b → Le o b (lower_by o stamp es lower)
+  lower_put stamp [] lower e b m p q = in_none m
+  lower_put stamp (f ∷ fs) lower e b m p q =
       ⊎_elim (λ h. le_trans o laws _ _ _ (by f.put (ap (λ (z : Entry S R). z.put) (sym h) ∙ p) (ap (λ (z : Entry S R). stamp z.number) (sym h) ∙ q)) (lower_over stamp fs (cond f.put (lifted o lower (stamp f.number)) lower)))
-      (λ n. lower-put stamp fs _ e b n p q) (in_cons m)
+      (λ n. lower_put stamp fs _ e b n p q) (in_cons m)
     where
       by : (t : Bool) → t ≡ true → stamp f.number ≡ Some b → Le o b (cond t (lifted o lower (stamp f.number)) lower)
       by true p q = lifted_new o laws lower (stamp f.number) b q

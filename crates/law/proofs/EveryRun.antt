@@ -1,38 +1,37 @@
 -- After every run the stamp order accounts for all that was accepted.
-use Rattle.std.proofs.Common.{◌≡◌, ℕ, zero, suc, ◌<◌, ◌≤◌, Bool, true, false, cond, not, List, [], ◌∷◌, ◌++◌, map, length, take, replicate, Some, None, Ok, Err, Option, sym, refl, ap, ◌∙◌, subst, inl, arith}
+use Rattle.std.proofs.Common.{◌≡◌, ℕ, zero, suc, ◌≤◌, Bool, true, false, cond, not, List, [], ◌∷◌, length, replicate, Some, None, Ok, Option, sym, refl, ap, ◌∙◌, subst, inl, arith}
 use mathlib.Core.List.Permᴰ
 use Rattle.std.specs.Option.{option_map}
 use Rattle.std.specs.List.{slice_get}
-use Rattle.kinds.specs.Stamps.{Order, Ordered, Kind, Lawful}
+use Rattle.kinds.specs.Stamps.{Order, Kind, Lawful}
 use Rattle.model.specs.declared.row.Row.{Row}
-use Rattle.model.specs.declared.refusal.Refusal.{Refusal}
 use Rattle.model.specs.declared.refusal.Refusal.TheVariants.{WrongTables}
 use Rattle.model.specs.Refusals.{refused_if}
-use Rattle.model.specs.Rows.{Stood, stood, write_of, older, founded_row}
+use Rattle.model.specs.Rows.{Stood, stood, older}
 use Rattle.station.specs.Station.{Image, Station, look_job, put_job, tune_job}
-use Rattle.registrar.specs.Registry.{Registry, Settled, tables_sized, unless, found, founded, founded_rows, submit, publish}
+use Rattle.registrar.specs.Registry.{Registry, Settled, tables_sized, unless, found, founded, founded_rows, submit}
 use Rattle.law.specs.Daybook.{Daybook, AcceptedJob, with_leaf, line_put}
 use Rattle.law.specs.Account.{put_of, at_opening, played, SerialOrder, Accounted, StampOrderAccounts}
 use Rattle.law.specs.Runs.{Call, opens, looks, puts, tunes, submits, decides, publishes, Desk, image_numbered, given, standing_at, after_call, after_submit, shown, done, stands, is_done, shown_of, ticket_of, write_given, noted, laid_if, Run, next, run, start}
-use Rattle.law.proofs.StampOrder.{some-none, some_inj, Le, not_both}
+use Rattle.law.proofs.StampOrder.{some_none, some_inj, Le, not_both}
 use Rattle.law.proofs.Members.{In, in_none, in_arranged, turned}
-use Rattle.law.proofs.Sizes.{tables, sizes, sized-founded}
-use Rattle.law.proofs.RowLaws.{nth-some, nth_inside, FoundedAt, founded_from, founded-stands, length-founded}
-use Rattle.law.proofs.Plays.{Wrote, Origin, Sound, borne_out, ends_at, untouched}
+use Rattle.law.proofs.Sizes.{tables, sizes, sized_founded}
+use Rattle.law.proofs.RowLaws.{nth_some, nth_inside, founded_from, founded_stands}
+use Rattle.law.proofs.Plays.{borne_out, ends_at, untouched}
 use Rattle.law.proofs.History.{Since, Versions, RowOk}
-use Rattle.law.proofs.AtStations.{not_err, not_ok}
-use Rattle.law.proofs.Acceptance.{top_in, older_in, top_at, older_at, stood_at, first_at, RowsOk}
-use Rattle.law.proofs.Invariant.{shown_in, ImageOk, Inv}
+use Rattle.law.proofs.AtStations.{not_ok}
+use Rattle.law.proofs.Acceptance.{top_in, older_in, top_at, older_at, stood_at, first_at}
+use Rattle.law.proofs.Invariant.{shown_in, Inv}
 use Rattle.law.proofs.AtDesk.{open_inv, look_inv, put_inv, tune_inv}
 use Rattle.law.proofs.AtRegistrar.{submit_inv, decide_inv}
 use Rattle.law.proofs.AtBroadcast.{none_first, publish_inv}
 
 -- each call keeps what every run keeps
 module _ {S R : Type 0} (k : Kind S) (laws : Lawful k) (values : List R) (d : Desk S R) (b : Daybook S R) (h : Inv k values d b) where
-  look-step : (j n x : ℕ) (p : Option (Image S R)) → image_numbered d.images n ≡ p → (q : Option (Station S R)) → d.jobs j ≡ q → let m = given p d (λ i. standing_at q d (λ t. after_call d j shown (look_job k t i x))) in Inv k values m.desk (noted (shown_of m.answer) (write_given p x) j x b)
-  look-step j n x None e q f = h
-  look-step j n x (Some i) e None f = h
-  look-step j n x (Some i) e (Some t) f = subst (λ (z : Option (Image S R)). let m = after_call d j shown (look_job k t i x) in Inv k values m.desk (noted (shown_of m.answer) (write_given z x) j x b)) e (look_inv k laws values d b h j n i t e f x)
+  look_step : (j n x : ℕ) (p : Option (Image S R)) → image_numbered d.images n ≡ p → (q : Option (Station S R)) → d.jobs j ≡ q → let m = given p d (λ i. standing_at q d (λ t. after_call d j shown (look_job k t i x))) in Inv k values m.desk (noted (shown_of m.answer) (write_given p x) j x b)
+  look_step j n x None e q f = h
+  look_step j n x (Some i) e None f = h
+  look_step j n x (Some i) e (Some t) f = subst (λ (z : Option (Image S R)). let m = after_call d j shown (look_job k t i x) in Inv k values m.desk (noted (shown_of m.answer) (write_given z x) j x b)) e (look_inv k laws values d b h j n i t e f x)
 
   put_step : (j n x : ℕ) (v : R) (p : Option (Image S R)) → image_numbered d.images n ≡ p → (q : Option (Station S R)) → d.jobs j ≡ q → let m = given p d (λ i. standing_at q d (λ t. after_call d j (λ u. done) (put_job k t i x v))) in Inv k values m.desk (cond (is_done m.answer) (with_leaf b j (line_put x v (b.leaves j))) b)
   put_step j n x v None e q f = h
@@ -44,17 +43,17 @@ module _ {S R : Type 0} (k : Kind S) (laws : Lawful k) (values : List R) (d : De
   tune_step j n (Some i) e None f = h
   tune_step j n (Some i) e (Some t) f = tune_inv k laws values d b h j n i t e f
 
-  submit-step : (j : ℕ) (q : Option (Station S R)) → d.jobs j ≡ q → let m = standing_at q d (λ t. let s = submit d.registry t in after_submit d j s s.answer) in Inv k values m.desk (laid_if (ticket_of m.answer) j b)
-  submit-step j None f = h
-  submit-step j (Some t) f = submit_inv k laws values d b h j t f
+  submit_step : (j : ℕ) (q : Option (Station S R)) → d.jobs j ≡ q → let m = standing_at q d (λ t. let s = submit d.registry t in after_submit d j s s.answer) in Inv k values m.desk (laid_if (ticket_of m.answer) j b)
+  submit_step j None f = h
+  submit_step j (Some t) f = submit_inv k laws values d b h j t f
 
 module _ {S R : Type 0} (k : Kind S) (laws : Lawful k) (values : List R) where
   pub next_inv : (r : Run S R) (c : Call S R) → Inv k values r.desk r.book → Inv k values (next k r c).desk (next k r c).book
   next_inv r (opens j n sheet) h = open_inv k laws values r.desk r.book h j n sheet (image_numbered r.desk.images n) refl
-  next_inv r (looks j n x) h = look-step k laws values r.desk r.book h j n x (image_numbered r.desk.images n) refl (r.desk.jobs j) refl
+  next_inv r (looks j n x) h = look_step k laws values r.desk r.book h j n x (image_numbered r.desk.images n) refl (r.desk.jobs j) refl
   next_inv r (puts j n x v) h = put_step k laws values r.desk r.book h j n x v (image_numbered r.desk.images n) refl (r.desk.jobs j) refl
   next_inv r (tunes j n) h = tune_step k laws values r.desk r.book h j n (image_numbered r.desk.images n) refl (r.desk.jobs j) refl
-  next_inv r (submits j) h = submit-step k laws values r.desk r.book h j (r.desk.jobs j) refl
+  next_inv r (submits j) h = submit_step k laws values r.desk r.book h j (r.desk.jobs j) refl
   next_inv r decides h = decide_inv k laws values r.desk r.book h
   next_inv r (publishes i) h = publish_inv k laws values r.desk r.book h i
 
@@ -67,38 +66,38 @@ right true a g e = refl
 right false a g e = not_ok e
 
 -- a founding that is not refused had tables of the right lengths
-found-sized : {S R : Type 0} (o : Order S) (values : List R) (g : Registry S R) → (found o values g).answer ≡ Ok tt → tables_sized (length values) g ≡ true
-found-sized o values g e = right (tables_sized (length values) g) (record { answer = Ok tt; registry = founded o values g }) g e
+found_sized : {S R : Type 0} (o : Order S) (values : List R) (g : Registry S R) → (found o values g).answer ≡ Ok tt → tables_sized (length values) g ≡ true
+found_sized o values g e = right (tables_sized (length values) g) (record { answer = Ok tt; registry = founded o values g }) g e
 
 module _ {S R : Type 0} (k : Kind S) (laws : Lawful k) (values : List R) (brought : Registry S R) (e : (found k.order values brought).answer ≡ Ok tt) where
   rows_level : length values ≡ length brought.rows
-  rows_level = sym (tables (length values) brought (found-sized k.order values brought e)).rows
+  rows_level = sym (tables (length values) brought (found_sized k.order values brought e)).rows
 
   -- a row just founded
   founded_top : (x : ℕ) (r : Option (Row S R)) (w : Stood S R) → option_map stood r ≡ Some w → top_in k.order r ≡ w.stamp
-  founded_top x None w q = absurd (some-none (sym q))
+  founded_top x None w q = absurd (some_none (sym q))
   founded_top x (Some r) w q = ap (λ (z : Stood S R). z.stamp) (some_inj q)
 
-  founded-versions : (x : ℕ) (top : S) (r : Option (Row S R)) → slice_get (founded_rows k.order values brought.rows) x ≡ r → Versions {R = R} k.order [] x top top (older_in r)
-  founded-versions x top None q = tt
-  founded-versions x top (Some r) q =
+  founded_versions : (x : ℕ) (top : S) (r : Option (Row S R)) → slice_get (founded_rows k.order values brought.rows) x ≡ r → Versions {R = R} k.order [] x top top (older_in r)
+  founded_versions x top None q = tt
+  founded_versions x top (Some r) q =
       let f = founded_from k.order values brought.rows x r q in
       subst (λ (z : Row S R). Versions {R = R} k.order [] x top top (older z)) (sym f.is) tt
 
   pub founded_inv : Inv k values (start k values brought).desk (start k values brought).book
   founded_inv =
       record {
-        sized = sized-founded k.order values brought (found-sized k.order values brought e);
+        sized = sized_founded k.order values brought (found_sized k.order values brought e);
         records = refl;
         opening = refl;
         cycle = refl;
-        images_ok = λ n i q. absurd (some-none (sym q));
+        images_ok = λ n i q. absurd (some_none (sym q));
         sound = record { pairs = tt; origin = λ d m. in_none m; after = λ d m. in_none m; risen = λ d m. in_none m };
         rows_ok = record { row = row_founded; reads = λ d m. in_none m };
-        image_origin = λ n l x w q. inl (opening-shown n l x w q);
-        image_since = λ n i q x. absurd (some-none (sym q));
-        job_ok = λ j t q. absurd (some-none (sym q));
-        job-leaf = λ j t q. absurd (some-none (sym q));
+        image_origin = λ n l x w q. inl (opening_shown n l x w q);
+        image_since = λ n i q x. absurd (some_none (sym q));
+        job_ok = λ j t q. absurd (some_none (sym q));
+        job_leaf = λ j t q. absurd (some_none (sym q));
         queue_ok = λ w m. in_none m;
         waiting = refl;
         journal = record { serial = record { same_jobs = Permᴰ.nil; never_falls = tt }; in_turn = λ s. refl };
@@ -108,25 +107,25 @@ module _ {S R : Type 0} (k : Kind S) (laws : Lawful k) (values : List R) (brough
       rows : List (Row S R)
       rows = founded_rows k.order values brought.rows
 
-      opening-shown : (n : ℕ) → n ≤ 0 → (x : ℕ) (w : Stood S R) → shown_in k.order values [] n x ≡ Some w → at_opening k.order values x ≡ Some w
-      opening-shown zero l x w q = q
-      opening-shown (suc n) l x w q = absurd (some-none (sym q))
+      opening_shown : (n : ℕ) → n ≤ 0 → (x : ℕ) (w : Stood S R) → shown_in k.order values [] n x ≡ Some w → at_opening k.order values x ≡ Some w
+      opening_shown zero l x w q = q
+      opening_shown (suc n) l x w q = absurd (some_none (sym q))
 
       row_founded : (x : ℕ) → RowOk k.order values [] x (at_opening k.order values x) (stood_at (founded_rows k.order values brought.rows) x) (top_at k.order (founded_rows k.order values brought.rows) x) (older_at (founded_rows k.order values brought.rows) x) (first_at (replicate (length values) None) x)
       row_founded x =
-          let stands = founded-stands k.order values brought.rows x rows_level in
+          let stands = founded_stands k.order values brought.rows x rows_level in
           record {
             origin = λ w q. inl (sym stands ∙ q);
             tops = λ w q. founded_top x (slice_get (founded_rows k.order values brought.rows) x) w q;
             last = λ w m. in_none m.member;
-            versions = founded-versions x (top_at k.order (founded_rows k.order values brought.rows) x) (slice_get (founded_rows k.order values brought.rows) x) refl;
+            versions = founded_versions x (top_at k.order (founded_rows k.order values brought.rows) x) (slice_get (founded_rows k.order values brought.rows) x) refl;
             since = subst (λ (f : Option S). Since k.order [] x (top_at k.order (founded_rows k.order values brought.rows) x) (at_opening k.order values x) (stood_at (founded_rows k.order values brought.rows) x) f) (sym (none_first (length values) x)) stands;
           }
 
 -- what every run keeps gives the law
 module _ {S R : Type 0} (k : Kind S) (laws : Lawful k) (values : List R) (d : Desk S R) (b : Daybook S R) (h : Inv k values d b) where
-  opening-none : (x : ℕ) → slice_get d.registry.rows x ≡ None → at_opening k.order values x ≡ None
-  opening-none x e = ap (option_map (λ v. record { value = v; stamp = k.order.least })) (by (slice_get values x) refl)
+  opening_none : (x : ℕ) → slice_get d.registry.rows x ≡ None → at_opening k.order values x ≡ None
+  opening_none x e = ap (option_map (λ v. record { value = v; stamp = k.order.least })) (by (slice_get values x) refl)
     where
       by : (p : Option R) → slice_get values x ≡ p → p ≡ None
       by None q = refl
@@ -134,7 +133,7 @@ module _ {S R : Type 0} (k : Kind S) (laws : Lawful k) (values : List R) (d : De
           let l = nth_inside values x v q in
           let z = (sizes d.registry h.sized).rows in
           let n = h.records in
-          absurd (some-none (sym (nth-some d.registry.rows x (omega arith)).1 ∙ e))
+          absurd (some_none (sym (nth_some d.registry.rows x (omega arith)).1 ∙ e))
 
   -- where the register has no record, no job puts
   no_put_past : (x : ℕ) → slice_get d.registry.rows x ≡ None → (a : AcceptedJob S R) → In a b.accepted → put_of x a.puts ≡ None
@@ -152,7 +151,7 @@ module _ {S R : Type 0} (k : Kind S) (laws : Lawful k) (values : List R) (d : De
     where
       by : (p : Option (Row S R)) → slice_get d.registry.rows x ≡ p → played (at_opening k.order values) order x ≡ option_map stood p
       by None e =
-          untouched order x (λ a m. no_put_past x e a (in_arranged (turned r.same_jobs) m)) (at_opening k.order values) ∙ opening-none x e
+          untouched order x (λ a m. no_put_past x e a (in_arranged (turned r.same_jobs) m)) (at_opening k.order values) ∙ opening_none x e
       by (Some t) e =
           ends_at k.order laws.ordered values b.accepted order h.sound r x (stood t)
           (λ a m v q. subst (λ (z : Option (Row S R)). Le k.order a.stamp (top_in k.order z)) e ((h.rows_ok.row x).last (record { value = v; stamp = a.stamp }) (record { job = a; member = m; puts = q; stamps = refl })))

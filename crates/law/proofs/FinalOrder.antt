@@ -1,5 +1,5 @@
 -- The journal stays in final order when a job is entered.
-use Rattle.std.proofs.Common.{◌≡◌, Bool, true, false, cond, not, ◌&&◌, List, [], ◌∷◌, ◌++◌, filter, sym, refl, ap, ◌∙◌}
+use Rattle.std.proofs.Common.{◌≡◌, Bool, true, false, cond, not, List, [], ◌∷◌, ◌++◌, filter, sym, refl, ap, ◌∙◌}
 use mathlib.Core.List.Permᴰ
 use mathlib.Core.List.{Permᴰ}
 use Rattle.std.specs.List.{AllByRecursion}
@@ -9,9 +9,9 @@ use Rattle.std.proofs.lemmas.Bool.{and_left}
 use Rattle.kinds.specs.Stamps.{Order, Ordered}
 use Rattle.kinds.specs.Bounds.{same}
 use Rattle.law.specs.Daybook.{AcceptedJob}
-use Rattle.law.specs.Account.{NeverFalls, SerialOrder, FinalOrder}
+use Rattle.law.specs.Account.{NeverFalls, FinalOrder}
 use Rattle.law.proofs.StampOrder.{Lt, Le, lt_le, le_trans, le_lt_trans, lt_le_trans, same_le}
-use Rattle.law.proofs.Members.{In, in_all, all_in}
+use Rattle.law.proofs.Members.{in_all, all_in}
 use Rattle.law.proofs.Views.{enter_job}
 
 push_front : {A : Type 0} (xs : List A) (a : A) → Permᴰ (xs ++ (a ∷ [])) (a ∷ xs)

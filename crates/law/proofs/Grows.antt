@@ -1,5 +1,5 @@
 -- One accepted job more: the tables after it keep what they keep, and the jobs that wait last.
-use Rattle.std.proofs.Common.{◌≡◌, ℕ, ◌<◌, Bool, true, false, ◌⊎◌, List, [], ◌∷◌, ◌++◌, length, Some, None, Option, sym, refl, ap, ◌∙◌, subst, inl, inr, ⊎_elim, arith}
+use Rattle.std.proofs.Common.{◌≡◌, ℕ, Bool, List, [], ◌∷◌, ◌++◌, length, Some, None, Option, sym, refl, ap, ◌∙◌, subst, ⊎_elim, arith}
 use Rattle.std.specs.Option.{option_map}
 use Rattle.std.specs.List.{AllByRecursion, slice_get}
 use Rattle.std.proofs.ByRecursion.{All-weaker}
@@ -8,16 +8,16 @@ use Rattle.model.specs.declared.entry.Entry.{Entry}
 use Rattle.model.specs.declared.row.Row.{Row}
 use Rattle.model.specs.Rows.{Stood}
 use Rattle.registrar.specs.Deciding.{rows_after, firsts_after}
-use Rattle.law.specs.Daybook.{Look, AcceptedJob, accepted_job, looks_of, puts_of}
+use Rattle.law.specs.Daybook.{Look, AcceptedJob, accepted_job}
 use Rattle.law.specs.Account.{put_of}
-use Rattle.law.proofs.StampOrder.{some-none, Le, lt_le, le_trans}
+use Rattle.law.proofs.StampOrder.{some_none, Le, lt_le, le_trans}
 use Rattle.law.proofs.Members.{In, in_push}
 use Rattle.law.proofs.Views.{leaf, Distinct, looks_at, accepted_row, first_by}
 use Rattle.law.proofs.Leaves.{looked_if}
-use Rattle.law.proofs.Plays.{Origin, origin_in}
+use Rattle.law.proofs.Plays.{origin_in}
 use Rattle.law.proofs.History.{Grown, passed_on, grown_by}
 use Rattle.law.proofs.Jobs.{EntryOk}
-use Rattle.law.proofs.RowLaws.{nth-some, rows_after_at, firsts_after_at}
+use Rattle.law.proofs.RowLaws.{nth_some, rows_after_at, firsts_after_at}
 use Rattle.law.proofs.Acceptance.{top_at, read_at, top_in, read_in, RowsOk, Fits, After, row_accepted, top_rises, read_rises, read_raised}
 
 module _ {S R : Type 0} (o : Order S) (laws : Ordered o) (values : List R) (jobs : List (AcceptedJob S R)) (last : ℕ → Option (Stood S R)) (rows : List (Row S R)) (firsts : List (Option S)) (size : length rows ≡ length values) (size_first : length firsts ≡ length values) (ok : RowsOk o values jobs last rows firsts) (s : S) (ticket : ℕ) (es : List (Entry S R)) (distinct : Distinct es) (f : Fits o values jobs rows (accepted_job s ticket (leaf es))) where
@@ -30,7 +30,7 @@ module _ {S R : Type 0} (o : Order S) (laws : Ordered o) (values : List R) (jobs
     where
       by : (p : Option R) → put_of x new.puts ≡ p → p ≡ None
       by None q = refl
-      by (Some v) q = let l = f.puts-inside x v q in absurd (some-none (sym (nth-some table x (omega arith)).1 ∙ e))
+      by (Some v) q = let l = f.puts_inside x v q in absurd (some_none (sym (nth_some table x (omega arith)).1 ∙ e))
 
   pub rows_grown : RowsOk o values (jobs ++ (new ∷ [])) last (rows_after o s es rows) (firsts_after s es firsts)
   rows_grown =
@@ -52,8 +52,8 @@ module _ {S R : Type 0} (o : Order S) (laws : Ordered o) (values : List R) (jobs
 
       raised : (l : Look S R) → In l new.looks → Le o s (read_at o (rows_after o s es rows) l.number)
       raised l n =
-          let h = f.looks-inside l n in
-          let r = nth-some rows l.number (omega arith) in
+          let h = f.looks_inside l n in
+          let r = nth_some rows l.number (omega arith) in
           subst (λ (z : S). Le o s z) (sym (after_read l.number))
           (subst (λ (z : Option (Row S R)). Le o s (read_in o (option_map (accepted_row o s (put_of l.number new.puts) (looks_at l.number new.looks)) z))) (sym r.1)
           (subst (λ (b : Bool). Le o s (read_in o (Some (accepted_row o s (put_of l.number new.puts) b r.0)))) (sym (looked_if new.looks l n))
@@ -72,8 +72,8 @@ module _ {S R : Type 0} (o : Order S) (laws : Ordered o) (values : List R) (jobs
 
 -- what a job noted lasts while the writes go on
 module _ {S R : Type 0} (o : Order S) (laws : Ordered o) (values : List R) (jobs more : List (AcceptedJob S R)) (top top' : ℕ → S) (keeps : (d : AcceptedJob S R) → In d jobs → In d more) (g : (x : ℕ) → Grown o jobs more x (top x) (top' x)) where
-  pub entries-last : (shown : ℕ → Option (Stood S R)) (lower : S) (upper : Option S) (es : List (Entry S R)) → AllByRecursion (EntryOk o values jobs top shown lower upper) es → AllByRecursion (EntryOk o values more top' shown lower upper) es
-  entries-last shown lower upper es h =
+  pub entries_last : (shown : ℕ → Option (Stood S R)) (lower : S) (upper : Option S) (es : List (Entry S R)) → AllByRecursion (EntryOk o values jobs top shown lower upper) es → AllByRecursion (EntryOk o values more top' shown lower upper) es
+  entries_last shown lower upper es h =
       All-weaker (EntryOk o values jobs top shown lower upper) (EntryOk o values more top' shown lower upper)
       (λ e q s. let z = q s in
       record {

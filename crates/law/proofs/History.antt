@@ -6,8 +6,8 @@ use Rattle.model.specs.Rows.{Stood}
 use Rattle.registrar.specs.Deciding.{follows_in, first_kept}
 use Rattle.law.specs.Daybook.{AcceptedJob}
 use Rattle.law.specs.Account.{put_of}
-use Rattle.law.proofs.StampOrder.{some-none, some_inj, Lt, Le, le_refl, lt_le, le_trans, same_le}
-use Rattle.law.proofs.Members.{In, in_left, in_last, in_push}
+use Rattle.law.proofs.StampOrder.{some_none, some_inj, Lt, Le, le_refl, lt_le, le_trans, same_le}
+use Rattle.law.proofs.Members.{in_left, in_last, in_push}
 use Rattle.law.proofs.Plays.{Wrote, Origin, origin_in}
 
 module _ {S R : Type 0} (o : Order S) where
@@ -67,13 +67,13 @@ module _ {S R : Type 0} (o : Order S) (laws : Ordered o) where
 
   module _ (jobs : List (AcceptedJob S R)) (x : ℕ) (top noted : S) where
     located_older : (newer : S) (vs : List S) → Versions o jobs x top newer vs → (next : Option S) → follows_in o noted newer vs ≡ Some next → Located jobs x top noted next
-    located_older newer [] h next e = absurd (some-none (sym e))
+    located_older newer [] h next e = absurd (some_none (sym e))
     located_older newer (v ∷ vs) h next e = by (same o noted v) refl e (located_older v vs h.1 next)
       where
         by : (t : Bool) → same o noted v ≡ t → cond t (Some (Some newer)) (follows_in o noted v vs) ≡ Some next → (follows_in o noted v vs ≡ Some next → Located jobs x top noted next) → Located jobs x top noted next
         by true s e ih =
             record {
-              latest = λ n. absurd (some-none (some_inj e ∙ n));
+              latest = λ n. absurd (some_none (some_inj e ∙ n));
               followed = λ n q. subst (λ z. Passed o jobs x top noted z) (some_inj (some_inj e ∙ q))
                   (record { reached = h.0.reached; gap = λ u k. ⊎_elim (λ l. inl (le_trans o laws _ _ _ l (same_le o laws noted v s).1)) inr (h.0.gap u k) });
             }
@@ -83,7 +83,7 @@ module _ {S R : Type 0} (o : Order S) (laws : Ordered o) where
     located vs h next e = by (same o noted top) refl e
       where
         by : (t : Bool) → same o noted top ≡ t → cond t (Some None) (follows_in o noted top vs) ≡ Some next → Located jobs x top noted next
-        by true s e = record { latest = λ n. (same_le o laws noted top s).1; followed = λ n q. absurd (some-none (sym (some_inj e ∙ q))) }
+        by true s e = record { latest = λ n. (same_le o laws noted top s).1; followed = λ n q. absurd (some_none (sym (some_inj e ∙ q))) }
         by false s e = located_older top vs h next e
 
 -- what a row keeps: what stands comes from the opening or a job, nothing was written later, and the versions and the
@@ -111,11 +111,11 @@ module _ {S R : Type 0} (o : Order S) (laws : Ordered o) (jobs : List (AcceptedJ
     -- a row that the new job does not put
     pub row_left : put_of x d.puts ≡ None → RowOk o values (jobs ++ (d ∷ [])) x was stood top older first
     row_left e =
-        let g = grown_by x top top (le_refl o laws top) (λ v f. absurd (some-none (sym f ∙ e))) in
+        let g = grown_by x top top (le_refl o laws top) (λ v f. absurd (some_none (sym f ∙ e))) in
         record {
           origin = λ w q. origin_in o values jobs (jobs ++ (d ∷ [])) x w (λ a m. in_left (d ∷ []) m) (ok.origin w q);
           tops = ok.tops;
-          last = λ w h. ⊎_elim (ok.last w) (λ k. absurd (some-none (sym k.0 ∙ e))) (wrote_push x w h);
+          last = λ w h. ⊎_elim (ok.last w) (λ k. absurd (some_none (sym k.0 ∙ e))) (wrote_push x w h);
           versions = versions_on o laws g top older ok.versions;
           since = since_on o laws g was stood first ok.since;
         }

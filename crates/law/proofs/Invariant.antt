@@ -1,22 +1,20 @@
 -- What every run keeps between the registrar, its images, the jobs and the daybook.
-use Rattle.std.proofs.Common.{◌≡◌, ℕ, zero, suc, ◌+◌, ◌<◌, ◌≤◌, Bool, true, false, cond, ◌&&◌, eqb, List, [], ◌∷◌, ◌++◌, map, length, take, Some, None, Option, sym, refl, ap, ◌∙◌, subst, arith}
+use Rattle.std.proofs.Common.{◌≡◌, ℕ, zero, suc, ◌<◌, ◌≤◌, Bool, true, false, cond, eqb, List, map, length, take, Some, None, Option, sym, refl, ap, ◌∙◌, subst, arith}
 use Rattle.std.specs.Option.{option_map}
 use Rattle.std.specs.List.{AllByRecursion, slice_get}
 use Rattle.std.proofs.lemmas.Bool.{eqb-true, eq-eqb}
-use Rattle.kinds.specs.Stamps.{Order, Ordered, Kind, Lawful}
+use Rattle.kinds.specs.Stamps.{Order, Kind, Lawful}
 use Rattle.model.specs.declared.entry.Entry.{Entry}
-use Rattle.model.specs.declared.refusal.Refusal.{Refusal}
 use Rattle.model.specs.Rows.{Stood}
 use Rattle.station.specs.Station.{Image, Work, Acted, Station, work_of, put_back, first_write}
 use Rattle.registrar.specs.Deciding.{Waiting}
-use Rattle.registrar.specs.Registry.{Registry, registry_sized, queue_of}
+use Rattle.registrar.specs.Registry.{registry_sized, queue_of}
 use Rattle.law.specs.Daybook.{AcceptedJob, Line, LaidBy, Daybook, changed, journal_of}
 use Rattle.law.specs.Runs.{Desk, with_job}
 use Rattle.law.specs.Account.{at_opening, FinalOrder}
-use Rattle.law.proofs.StampOrder.{some-none, some_inj}
 use Rattle.law.proofs.Members.{In}
 use Rattle.law.proofs.Views.{leaf, Distinct}
-use Rattle.law.proofs.Stations.{entries-count, work-back, count-back}
+use Rattle.law.proofs.Stations.{entries_count, work_back, count_back}
 use Rattle.law.proofs.Plays.{Origin, Sound}
 use Rattle.law.proofs.History.{Since}
 use Rattle.law.proofs.Jobs.{EntryOk, JobOk, row_stood}
@@ -67,7 +65,7 @@ module _ {S R : Type 0} (k : Kind S) (values : List R) where
     pub image_origin : (n : ℕ) → n ≤ length d.images → (x : ℕ) (w : Stood S R) → shown_in k.order values d.images n x ≡ Some w → Origin k.order values b.accepted x w
     pub image_since : (n : ℕ) (i : Image S R) → slice_get d.images n ≡ Some i → (x : ℕ) → Since k.order b.accepted x (top_at k.order d.registry.rows x) (shown_in k.order values d.images n x) (option_map row_stood (slice_get i.rows x)) (first_write i x)
     pub job_ok : (j : ℕ) (t : Station S R) → d.jobs j ≡ Some t → StationOk b.accepted (top_at k.order d.registry.rows) d.images (length d.images) t
-    pub job-leaf : (j : ℕ) (t : Station S R) → d.jobs j ≡ Some t → b.leaves j ≡ leaf (work_of t).entries
+    pub job_leaf : (j : ℕ) (t : Station S R) → d.jobs j ≡ Some t → b.leaves j ≡ leaf (work_of t).entries
     pub queue_ok : (w : Waiting S R) → In w (queue_of d.registry) → WaitingOk b.accepted (top_at k.order d.registry.rows) d.images (length d.images) w
     pub waiting : b.waiting ≡ map laid_of (queue_of d.registry)
     pub journal : FinalOrder k.order b.accepted (journal_of d.registry)
@@ -88,7 +86,7 @@ module _ {S R : Type 0} (k : Kind S) (values : List R) where
           image_origin = h.image_origin;
           image_since = h.image_since;
           job_ok = λ n t. by_ok n t (eqb j n);
-          job-leaf = λ n t. by-leaf n t (eqb j n) refl;
+          job_leaf = λ n t. by_leaf n t (eqb j n) refl;
           queue_ok = h.queue_ok;
           waiting = h.waiting;
           journal = h.journal;
@@ -99,9 +97,9 @@ module _ {S R : Type 0} (k : Kind S) (values : List R) where
         by_ok n t true e = here-ok t e
         by_ok n t false e = h.job_ok n t e
 
-        by-leaf : (n : ℕ) (t : Station S R) (q : Bool) → eqb j n ≡ q → cond q p (d.jobs n) ≡ Some t → leaves n ≡ leaf (work_of t).entries
-        by-leaf n t true a e = subst (λ (z : ℕ). leaves z ≡ leaf (work_of t).entries) (eqb-true j n a) (here-leaf t e)
-        by-leaf n t false a e = others n a ∙ h.job-leaf n t e
+        by_leaf : (n : ℕ) (t : Station S R) (q : Bool) → eqb j n ≡ q → cond q p (d.jobs n) ≡ Some t → leaves n ≡ leaf (work_of t).entries
+        by_leaf n t true a e = subst (λ (z : ℕ). leaves z ≡ leaf (work_of t).entries) (eqb-true j n a) (here-leaf t e)
+        by_leaf n t false a e = others n a ∙ h.job_leaf n t e
 
 pub leaf_here : {A : Type 0} (f : ℕ → A) (j : ℕ) (a : A) → changed f j a j ≡ a
 leaf_here f j a = ap (λ b. cond b a (f j)) (eq-eqb j j refl)
@@ -117,14 +115,14 @@ module _ {S R : Type 0} (k : Kind S) (laws : Lawful k) (values : List R) (jobs :
 
   pub back : {A : Type 0} (t : Station S R) (a : Acted S R A) → length t.sheet ≡ 16 → StationOk k values jobs top images cycle t → Kept k laws values jobs top (shown_in k.order values images) cycle (work_of t) a → Back t a.work
   back t a n s h =
-      let c = entries-count t s.count in
+      let c = entries_count t s.count in
       let g = h.grows in
       let f = h.keeps.few in
       let q = s.count in
-      let works : work_of (put_back t a.work) ≡ a.work = work-back t a.work q (omega arith) (omega arith) in
+      let works : work_of (put_back t a.work) ≡ a.work = work_back t a.work q (omega arith) (omega arith) in
       record {
         ok = record {
-          count = count-back t a.work q (omega arith) (omega arith);
+          count = count_back t a.work q (omega arith) (omega arith);
           good = subst (λ (z : Work S R). JobOk k values jobs top (shown_in k.order values images) cycle z) (sym works) h.keeps;
         };
         works = works;

@@ -1,32 +1,24 @@
 -- What a job keeps, and that look, put and tune keep it.
-use Rattle.std.proofs.Common.{◌≡◌, ℕ, suc, ◌+◌, ◌<◌, ◌≤◌, Bool, true, false, cond, not, ◌&&◌, ◌||◌, eqb, leb, ◌≢◌, ◌⊎◌, List, [], ◌∷◌, ◌++◌, map, length, is_some, Some, None, Ok, Err, Option, Result, sym, refl, ap, ◌∙◌, subst, inl, inr, ⊎_elim, arith, length-append}
-use Rattle.std.specs.Option.{option_map}
-use Rattle.std.specs.List.{AllByRecursion, slice_get}
-use Rattle.std.proofs.lemmas.Bool.{eqb-true, leb-false, not-false, true≢false, false≢true}
-use Rattle.std.proofs.ByRecursion.{All-push, All-weaker, All-map}
-use Rattle.kinds.specs.Stamps.{Order, Ordered, Kind, Lawful}
-use Rattle.kinds.specs.Bounds.{later}
+use Rattle.std.proofs.Common.{◌≡◌, ℕ, suc, ◌<◌, ◌≤◌, Bool, true, false, cond, ◌&&◌, eqb, ◌⊎◌, List, [], ◌∷◌, map, length, is_some, Some, None, Option, sym, refl, ap, ◌∙◌, ⊎_elim}
+use Rattle.std.specs.List.{AllByRecursion}
+use Rattle.std.proofs.ByRecursion.{All-weaker}
+use Rattle.kinds.specs.Stamps.{Order, Ordered, Kind}
 use Rattle.model.specs.declared.entry.Entry.{Entry}
 use Rattle.model.specs.declared.image.ImageRow.{ImageRow}
-use Rattle.station.specs.declared.job.Standing.{Standing}
-use Rattle.station.specs.declared.job.Standing.TheVariants.{Live, Shut}
 use Rattle.model.specs.declared.refusal.Refusal.{Refusal}
-use Rattle.model.specs.declared.refusal.Refusal.TheVariants.{JobShut, OtherImage, NotNextImage, NoSuchRecord, SheetFull, NoRoom}
 use Rattle.model.specs.Refusals.{refused_if}
 use Rattle.model.specs.Rows.{Stood}
-use Rattle.model.specs.Sheets.{find, looked, put_unseen, put_on, with_value, own_value, closed, beyond}
-use Rattle.station.specs.Station.{Image, Work, Acted, is_shut, bounded_below, shut_down, refuse, unless, if_room, of_row, at_image, sheet_room, look_lower, look_new, look_found, look_work, put_lower, put_bounded, put_again, put_found, put_work, first_write, read_stamp, struck, closed_by, upper_by, tune_lower, tune_upper, tuned, at_next, tune_work}
-use Rattle.law.specs.Daybook.{AcceptedJob, has_line, line_looked, line_put}
-use Rattle.law.proofs.StampOrder.{some-none, some_inj, Le, le_refl, le_trans, later_left, later_right, Under}
-use Rattle.law.proofs.Members.{In, in_none, in_cons, here, there, all_in, in_all, Pairs}
-use Rattle.law.proofs.Views.{leaf, Distinct}
-use Rattle.law.proofs.Leaves.{line_if, put_again_line, put_new_line, look_line, leaf-closed, distinct_push}
-use Rattle.law.proofs.Plays.{Wrote, Origin, origin_in}
-use Rattle.law.proofs.History.{Passed, Since, Grown, passed_on, passed_under}
-use Rattle.law.proofs.Bounds.{upper_old, upper_new, lower_over}
+use Rattle.model.specs.Sheets.{put_on, with_value, closed}
+use Rattle.station.specs.Station.{Work, is_shut, closed_by}
+use Rattle.law.specs.Daybook.{AcceptedJob}
+use Rattle.law.proofs.StampOrder.{some_none, Le, le_trans}
+use Rattle.law.proofs.Members.{In, in_none, in_cons, here, there}
+use Rattle.law.proofs.Views.{Distinct}
+use Rattle.law.proofs.Plays.{Origin}
+use Rattle.law.proofs.History.{Passed}
 
 pub refused_none : (b : Bool) (r : Refusal) (rest : Option Refusal) → refused_if b r rest ≡ None → (b ≡ false) × (rest ≡ None)
-refused_none true r rest e = absurd (some-none e)
+refused_none true r rest e = absurd (some_none e)
 refused_none false r rest e = (refl, e)
 
 abbrev pub row_stood : {S R : Type 0} → ImageRow S R → Stood S R
@@ -65,8 +57,8 @@ pub record JobOk {S R : Type 0} (k : Kind S) (values : List R) (jobs : List (Acc
   pub place : HasPlace k w
 
 module _ {S R : Type 0} (o : Order S) (laws : Ordered o) (values : List R) (jobs : List (AcceptedJob S R)) (top : ℕ → S) where
-  pub sheet-lower : (shown : ℕ → Option (Stood S R)) (lower lower' : S) (upper : Option S) → Le o lower lower' → (es : List (Entry S R)) → AllByRecursion (EntryOk o values jobs top shown lower upper) es → AllByRecursion (EntryOk o values jobs top shown lower' upper) es
-  sheet-lower shown lower lower' upper l es h =
+  pub sheet_lower : (shown : ℕ → Option (Stood S R)) (lower lower' : S) (upper : Option S) → Le o lower lower' → (es : List (Entry S R)) → AllByRecursion (EntryOk o values jobs top shown lower upper) es → AllByRecursion (EntryOk o values jobs top shown lower' upper) es
+  sheet_lower shown lower lower' upper l es h =
       All-weaker (EntryOk o values jobs top shown lower upper) (EntryOk o values jobs top shown lower' upper)
       (λ e q s. let k = q s in record { origin = k.origin; low = le_trans o laws _ lower lower' k.low l; stays = k.stays; shuts = k.shuts }) es h
 
@@ -90,9 +82,9 @@ module _ {S R : Type 0} (P : ℕ → Type 0) where
       by false k = (h.0, k)
 
 module _ {S R : Type 0} where
-  pub put_on-length : (x : ℕ) (v : R) (es : List (Entry S R)) → length (put_on x v es) ≡ length es
-  put_on-length x v [] = refl
-  put_on-length x v (e ∷ es) = by (eqb x e.number) (put_on-length x v es)
+  pub length-put_on : (x : ℕ) (v : R) (es : List (Entry S R)) → length (put_on x v es) ≡ length es
+  length-put_on x v [] = refl
+  length-put_on x v (e ∷ es) = by (eqb x e.number) (length-put_on x v es)
     where
       by : (t : Bool) → length (put_on x v es) ≡ length es → length (cond t (with_value v e ∷ es) (e ∷ put_on x v es)) ≡ length (e ∷ es)
       by true h = refl
@@ -114,12 +106,12 @@ module _ {S R : Type 0} where
       by true k = (h.0, h.1)
       by false k = ((λ a m q. let b = put_on_from x v es a m in h.0 b.0 b.1 (q ∙ b.2)), k)
 
-  pub closed-length : (first : ℕ → Option S) (es : List (Entry S R)) → length (map (closed_by first) es) ≡ length es
-  closed-length first [] = refl
-  closed-length first (e ∷ es) = ap suc (closed-length first es)
+  pub closed_length : (first : ℕ → Option S) (es : List (Entry S R)) → length (map (closed_by first) es) ≡ length es
+  closed_length first [] = refl
+  closed_length first (e ∷ es) = ap suc (closed_length first es)
 
-  pub closed-number : (first : ℕ → Option S) (e : Entry S R) → (closed_by first e).number ≡ e.number
-  closed-number first e = by (e.opened && is_some (first e.number))
+  pub closed_number : (first : ℕ → Option S) (e : Entry S R) → (closed_by first e).number ≡ e.number
+  closed_number first e = by (e.opened && is_some (first e.number))
     where
       by : (t : Bool) → (cond t (closed e) e).number ≡ e.number
       by true = refl
@@ -128,9 +120,9 @@ module _ {S R : Type 0} where
   closed_from : (first : ℕ → Option S) (es : List (Entry S R)) (a : Entry S R) → In a (map (closed_by first) es) → (b : Entry S R) × In b es × (a.number ≡ b.number)
   closed_from first [] a m = in_none m
   closed_from first (e ∷ es) a m =
-      ⊎_elim (λ q. (e, here, ap (λ (z : Entry S R). z.number) q ∙ closed-number first e)) (λ n. let h = closed_from first es a n in (h.0, there h.1, h.2)) (in_cons m)
+      ⊎_elim (λ q. (e, here, ap (λ (z : Entry S R). z.number) q ∙ closed_number first e)) (λ n. let h = closed_from first es a n in (h.0, there h.1, h.2)) (in_cons m)
 
   pub closed_distinct : (first : ℕ → Option S) (es : List (Entry S R)) → Distinct es → Distinct (map (closed_by first) es)
   closed_distinct first [] h = tt
   closed_distinct first (e ∷ es) h =
-      ((λ a m q. let b = closed_from first es a m in h.0 b.0 b.1 (sym (closed-number first e) ∙ q ∙ b.2)), closed_distinct first es h.1)
+      ((λ a m q. let b = closed_from first es a m in h.0 b.0 b.1 (sym (closed_number first e) ∙ q ∙ b.2)), closed_distinct first es h.1)

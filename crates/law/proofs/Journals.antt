@@ -15,8 +15,8 @@ use Rattle.model.proofs.Laid.{block_new, block_other}
 use Rattle.law.proofs.Sizes.{sizes, length-entered}
 
 -- the journal is the same where its tables and its count are
-pub journal-same : {S R : Type 0} (g h : Registry S R) → g.lines ≡ h.lines → g.heads ≡ h.heads → g.own.jobs ≡ h.own.jobs → journal_of g ≡ journal_of h
-journal-same g h a b c = λ i. map (job_at (a i)) (take (c i) (b i))
+pub journal_same : {S R : Type 0} (g h : Registry S R) → g.lines ≡ h.lines → g.heads ≡ h.heads → g.own.jobs ≡ h.own.jobs → journal_of g ≡ journal_of h
+journal_same g h a b c = λ i. map (job_at (a i)) (take (c i) (b i))
 
 -- every head has its lines at a place below n, at most 16 of them
 abbrev pub PlacedBelow : {S : Type 0} → ℕ → List (Head S) → Type 0

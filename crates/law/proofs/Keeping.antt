@@ -1,32 +1,32 @@
 -- What the registrar's tables keep besides the law: rising versions, and tickets in the order of submission.
-use Rattle.std.proofs.Common.{◌≡◌, ℕ, zero, suc, ◌+◌, ◌<◌, ◌≤◌, Bool, true, false, cond, ◌≢◌, ◌⊎◌, List, [], ◌∷◌, ◌++◌, map, length, take, Some, None, Ok, Err, Option, Result, sym, refl, ap, ◌∙◌, subst, inl, inr, ⊎_elim, arith}
+use Rattle.std.proofs.Common.{◌≡◌, ℕ, zero, suc, ◌+◌, ◌<◌, ◌≤◌, Bool, true, false, cond, ◌⊎◌, List, [], ◌∷◌, ◌++◌, map, length, take, Some, None, Ok, Err, Option, Result, sym, refl, ap, ◌∙◌, subst, ⊎_elim, arith}
 use Rattle.std.specs.Option.{option_map}
 use Rattle.std.specs.List.{AllByRecursion, slice_get}
 use Rattle.std.proofs.lemmas.List.{append-nil}
-use Rattle.kinds.specs.Stamps.{Order, Ordered, Kind, Lawful}
+use Rattle.kinds.specs.Stamps.{Order, Kind, Lawful}
 use Rattle.model.specs.declared.entry.Entry.{Entry}
 use Rattle.model.specs.declared.row.Row.{Row}
 use Rattle.model.specs.declared.refusal.Refusal.{Refusal}
 use Rattle.model.specs.declared.verdict.Verdict.{Verdict}
 use Rattle.model.specs.declared.verdict.Verdict.TheVariants.{Accepted, Overtaken, Gone, NoPlace}
-use Rattle.model.specs.Rows.{write_of, older, with_put, with_look, founded_row}
+use Rattle.model.specs.Rows.{write_of, older, with_put, with_look}
 use Rattle.station.specs.declared.job.Job.{Job}
 use Rattle.station.specs.Station.{Image, Station, work_of, open_job, look_job, put_job, tune_job}
-use Rattle.registrar.specs.Deciding.{Waiting, verdict_on, rows_after}
+use Rattle.registrar.specs.Deciding.{Waiting, verdict_on}
 use Rattle.registrar.specs.Registry.{Registry, queue_of, submit, submit_refused, submitted, unless, decide, decide_refused, decide_oldest, by_verdict, passed_over, taken_up, publish, publish_refused, published_unless, cleared, found, founded, founded_rows}
 use Rattle.law.specs.Daybook.{Daybook, AcceptedJob, LaidBy, accepted_job, looks_of, puts_of, stays, first_taken, with_leaf, line_put}
 use Rattle.law.specs.Account.{put_of}
 use Rattle.law.specs.Promises.{Rising}
 use Rattle.law.specs.Runs.{Call, opens, looks, puts, tunes, submits, decides, publishes, Desk, image_numbered, given, standing_at, after_open, answer_of, after_call, after_submit, after_decide, after_publish, shown, done, stands, is_done, shown_of, ticket_of, verdict_of, write_given, noted, laid_if, taken_if, Run, next, run, start}
-use Rattle.law.proofs.StampOrder.{some-none, some_inj, Lt}
-use Rattle.law.proofs.Members.{In, in_none, in_push, here, there, Pairs, pairs_push}
+use Rattle.law.proofs.StampOrder.{Lt}
+use Rattle.law.proofs.Members.{In, in_none, in_push, there, Pairs, pairs_push}
 use Rattle.law.proofs.Views.{leaf, Distinct, looks_at, accepted_row}
-use Rattle.law.proofs.RowLaws.{write_put, older-put, rows_after_at, FoundedAt, founded_from}
+use Rattle.law.proofs.RowLaws.{write_put, older_put, rows_after_at, founded_from}
 use Rattle.law.proofs.Queues.{queue_kept, queue-submitted, queue_decided, handed_in}
 use Rattle.law.proofs.Acceptance.{top_in, top_at, older_in, Fits}
 use Rattle.law.proofs.Invariant.{laid_of, WaitingOk, Inv}
 use Rattle.law.proofs.EveryRun.{next_inv, founded_inv}
-use Rattle.law.proofs.AtRegistrar.{queue_room, accepted-fits, first_in_line}
+use Rattle.law.proofs.AtRegistrar.{queue_room, accepted_fits, first_in_line}
 
 -- an accepted job as it was handed in
 pub record Neat {S R : Type 0} (records : ℕ) (a : AcceptedJob S R) : Type 0 where
@@ -56,7 +56,7 @@ module _ {S R : Type 0} (o : Order S) (s : S) where
   -- a row keeps its versions rising under a put with a later stamp
   rising_put : (v : R) (r : Row S R) → Lt o (write_of r) s → Rising o (write_of r) (older r) → Rising o (write_of (with_put v s r)) (older (with_put v s r))
   rising_put v r l h =
-      subst (λ (z : List S). Rising o (write_of (with_put v s r)) z) (sym (older-put v s r))
+      subst (λ (z : List S). Rising o (write_of (with_put v s r)) z) (sym (older_put v s r))
       (subst (λ (z : S). Rising o z (take 3 (write_of r ∷ older r))) (sym (write_put v s r)) (rising_take o s 3 (write_of r ∷ older r) (l, h)))
 
   rising_accepted : (b : Bool) (p : Option R) (r : Option (Row S R)) → ((v : R) → p ≡ Some v → Lt o (top_in o r) s) → Rising o (top_in o r) (older_in r) → Rising o (top_in o (option_map (accepted_row o s p b) r)) (older_in (option_map (accepted_row o s p b) r))
@@ -146,7 +146,7 @@ module _ {S R : Type 0} (k : Kind S) (laws : Lawful k) (values : List R) (d : De
         ok = h.queue_ok w first
 
         f : Fits k.order values b.accepted d.registry.rows (accepted_job s w.ticket (leaf w.entries))
-        f = accepted-fits k laws values d b h w ws e s v
+        f = accepted_fits k laws values d b h w ws e s v
 
         now : queue_of (taken_up k d.registry w s) ≡ ws
         now = queue_decided d.registry (taken_up k d.registry w s) 1 w ws h.sized refl refl refl e
@@ -188,10 +188,10 @@ module _ {S R : Type 0} (k : Kind S) (laws : Lawful k) (values : List R) (d : De
       by (Err r) = q
       by (Ok a) = q
 
-  look-step : (j n x : ℕ) (p : Option (Image S R)) (u : Option (Station S R)) → let m = given p d (λ i. standing_at u d (λ t. after_call d j shown (look_job k t i x))) in Still m.desk (noted (shown_of m.answer) (write_given (image_numbered d.images n) x) j x b)
-  look-step j n x None u = q
-  look-step j n x (Some i) None = q
-  look-step j n x (Some i) (Some t) = by (look_job k t i x).answer (write_given (image_numbered d.images n) x)
+  look_step : (j n x : ℕ) (p : Option (Image S R)) (u : Option (Station S R)) → let m = given p d (λ i. standing_at u d (λ t. after_call d j shown (look_job k t i x))) in Still m.desk (noted (shown_of m.answer) (write_given (image_numbered d.images n) x) j x b)
+  look_step j n x None u = q
+  look_step j n x (Some i) None = q
+  look_step j n x (Some i) (Some t) = by (look_job k t i x).answer (write_given (image_numbered d.images n) x)
     where
       by : (r : Result R Refusal) (c : Option S) → Keeps k.order values d.registry (noted (shown_of (answer_of {S = S} {R = R} shown r)) c j x b).accepted
       by (Err r) c = q
@@ -212,16 +212,16 @@ module _ {S R : Type 0} (k : Kind S) (laws : Lawful k) (values : List R) (d : De
   tune_step j (Some i) None = q
   tune_step j (Some i) (Some t) = q
 
-  submit-step : (j : ℕ) (u : Option (Station S R)) → d.jobs j ≡ u → let m = standing_at u d (λ t. let s = submit d.registry t in after_submit d j s s.answer) in Still m.desk (laid_if (ticket_of m.answer) j b)
-  submit-step j None e = q
-  submit-step j (Some t) e = by (submit_refused d.registry t) refl
+  submit_step : (j : ℕ) (u : Option (Station S R)) → d.jobs j ≡ u → let m = standing_at u d (λ t. let s = submit d.registry t in after_submit d j s s.answer) in Still m.desk (laid_if (ticket_of m.answer) j b)
+  submit_step j None e = q
+  submit_step j (Some t) e = by (submit_refused d.registry t) refl
     where
       by : (r : Option Refusal) → submit_refused d.registry t ≡ r → let s = unless r d.registry (record { answer = Ok (d.registry.own.tickets + 1); registry = submitted d.registry t }) in let m = after_submit d j s s.answer in Still m.desk (laid_if (ticket_of m.answer) j b)
       by (Some r) c = q
       by None c = submit_keeps t (h.job_ok j t e).good.few c
 
-  publish-step : (i : Image S R) → let p = publish d.registry i in Still (after_publish d p p.answer).desk b
-  publish-step i = by (publish_refused d.registry i)
+  publish_step : (i : Image S R) → let p = publish d.registry i in Still (after_publish d p p.answer).desk b
+  publish_step i = by (publish_refused d.registry i)
     where
       by : (r : Option Refusal) → let p = published_unless r d.registry i in Still (after_publish d p p.answer).desk b
       by (Some r) = q
@@ -230,12 +230,12 @@ module _ {S R : Type 0} (k : Kind S) (laws : Lawful k) (values : List R) (d : De
 module _ {S R : Type 0} (k : Kind S) (laws : Lawful k) (values : List R) where
   next_keeps : (r : Run S R) (c : Call S R) → Inv k values r.desk r.book → Keeps k.order values r.desk.registry r.book.accepted → Keeps k.order values (next k r c).desk.registry (next k r c).book.accepted
   next_keeps r (opens j n sheet) h q = open_step k laws values r.desk r.book h q j sheet (image_numbered r.desk.images n)
-  next_keeps r (looks j n x) h q = look-step k laws values r.desk r.book h q j n x (image_numbered r.desk.images n) (r.desk.jobs j)
+  next_keeps r (looks j n x) h q = look_step k laws values r.desk r.book h q j n x (image_numbered r.desk.images n) (r.desk.jobs j)
   next_keeps r (puts j n x v) h q = put_step k laws values r.desk r.book h q j x v (image_numbered r.desk.images n) (r.desk.jobs j)
   next_keeps r (tunes j n) h q = tune_step k laws values r.desk r.book h q j (image_numbered r.desk.images n) (r.desk.jobs j)
-  next_keeps r (submits j) h q = submit-step k laws values r.desk r.book h q j (r.desk.jobs j) refl
+  next_keeps r (submits j) h q = submit_step k laws values r.desk r.book h q j (r.desk.jobs j) refl
   next_keeps r decides h q = decide_keeps k laws values r.desk r.book h q
-  next_keeps r (publishes i) h q = publish-step k laws values r.desk r.book h q i
+  next_keeps r (publishes i) h q = publish_step k laws values r.desk r.book h q i
 
   run_keeps : (calls : List (Call S R)) (r : Run S R) → Inv k values r.desk r.book → Keeps k.order values r.desk.registry r.book.accepted → Keeps k.order values (run k calls r).desk.registry (run k calls r).book.accepted
   run_keeps [] r h q = q

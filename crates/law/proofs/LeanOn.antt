@@ -1,22 +1,18 @@
 -- What users lean on holds after every run.
-use Rattle.std.proofs.Common.{◌≡◌, ℕ, zero, suc, ◌<◌, ◌≤◌, Bool, true, false, ◌≢◌, ◌⊎◌, List, [], ◌∷◌, map, length, is_some, Some, None, Option, sym, refl, ap, ◌∙◌, subst, inl, inr, ⊎_elim, arith}
-use Rattle.std.specs.List.{AllByRecursion, slice_get}
+use Rattle.std.proofs.Common.{◌≡◌, ℕ, suc, ◌<◌, ◌≤◌, Bool, true, false, ◌≢◌, ◌⊎◌, List, [], ◌∷◌, map, length, is_some, Some, None, Option, sym, refl, ap, ◌∙◌, subst, inl, inr, ⊎_elim, arith}
+use Rattle.std.specs.List.{AllByRecursion}
 use Rattle.std.proofs.lemmas.Bool.{false≢true}
-use Rattle.kinds.specs.Stamps.{Order, Kind, Lawful, Before, Between}
+use Rattle.kinds.specs.Stamps.{Order, Kind, Lawful, Before}
 use Rattle.model.specs.declared.entry.Entry.{Entry}
 use Rattle.model.specs.declared.row.Row.{Row}
-use Rattle.model.specs.Rows.{write_of, older}
 use Rattle.station.specs.declared.job.Standing.{Standing}
 use Rattle.station.specs.declared.job.Standing.TheVariants.{Live, Shut}
-use Rattle.station.specs.Station.{Station, Work, is_shut, work_of}
-use Rattle.registrar.specs.Registry.{Registry}
+use Rattle.station.specs.Station.{is_shut}
 use Rattle.law.specs.Daybook.{Look, Put, Daybook, AcceptedJob, when, look_first, put_first, looks_of, puts_of, journal_of}
-use Rattle.law.specs.Runs.{Desk, run, start}
+use Rattle.law.specs.Runs.{Desk, start}
 use Rattle.law.specs.Promises.{Pairwise, look_numbers, put_numbers, StandsIn, NeatJob, Rising, KeptPromises, PromisesKept}
-use Rattle.law.proofs.StampOrder.{some-none}
-use Rattle.law.proofs.Members.{In, in_none, in_cons, here, there, all_in, in_all, in_arranged, turned, Pairs, pairs_arranged}
+use Rattle.law.proofs.Members.{In, all_in, in_all, in_arranged, turned, Pairs, pairs_arranged}
 use Rattle.law.proofs.Views.{leaf, Distinct}
-use Rattle.law.proofs.Jobs.{HasPlace}
 use Rattle.law.proofs.Acceptance.{top_in, older_in}
 use Rattle.law.proofs.Invariant.{Inv}
 use Rattle.law.proofs.EveryRun.{run_inv, founded_inv}

@@ -3,19 +3,18 @@ use Rattle.std.proofs.Common.{◌≡◌, ℕ, Bool, true, false, cond, ◌&&◌,
 use Rattle.std.proofs.lemmas.Bool.{eqb-true, eqb-false, eq-eqb}
 use Rattle.model.specs.declared.entry.Entry.{Entry}
 use Rattle.model.specs.declared.image.ImageRow.{ImageRow}
-use Rattle.model.specs.Rows.{Stood}
 use Rattle.model.specs.Sheets.{find, looked, put_unseen, put_on, with_value, closed}
 use Rattle.station.specs.Station.{closed_by}
-use Rattle.law.specs.Daybook.{Look, Put, Line, when, look_first, put_first, looks_of, puts_of, line_of, has_line, line_looked, line_put}
+use Rattle.law.specs.Daybook.{Look, when, look_first, put_first, looks_of, puts_of, line_of, has_line, line_looked, line_put}
 use Rattle.law.specs.Account.{put_of}
-use Rattle.law.proofs.StampOrder.{some-none}
-use Rattle.law.proofs.Members.{In, in_none, in_cons, here, there, Pairs, pairs_push}
+use Rattle.law.proofs.StampOrder.{some_none}
+use Rattle.law.proofs.Members.{In, in_none, in_cons, here, there, pairs_push}
 use Rattle.law.proofs.Views.{leaf, Distinct, looks_at}
 
 module _ {S R : Type 0} where
   -- a record on the sheet has a line, and another has none
   pub line_if : (x : ℕ) (es : List (Entry S R)) (e : Entry S R) → find x es ≡ Some e → has_line x (leaf es) ≡ true
-  line_if x [] e h = absurd (some-none (sym h))
+  line_if x [] e h = absurd (some_none (sym h))
   line_if x (f ∷ fs) e h = by (eqb x f.number) h (line_if x fs e)
     where
       by : (t : Bool) → cond t (Some f) (find x fs) ≡ Some e → (find x fs ≡ Some e → has_line x (leaf fs) ≡ true) → (t || has_line x (leaf fs)) ≡ true
@@ -27,12 +26,12 @@ module _ {S R : Type 0} where
   no_line x (f ∷ fs) h = by (eqb x f.number) h (no_line x fs)
     where
       by : (t : Bool) → cond t (Some f) (find x fs) ≡ None → (find x fs ≡ None → has_line x (leaf fs) ≡ false) → (t || has_line x (leaf fs)) ≡ false
-      by true h ih = absurd (some-none h)
+      by true h ih = absurd (some_none h)
       by false h ih = ih h
 
   -- a put writes the line that its entry has
   pub put_again_line : (x : ℕ) (v : R) (es : List (Entry S R)) (e : Entry S R) → find x es ≡ Some e → line_put x v (leaf es) ≡ leaf (put_on x v es)
-  put_again_line x v [] e h = absurd (some-none (sym h))
+  put_again_line x v [] e h = absurd (some_none (sym h))
   put_again_line x v (f ∷ fs) e h = by (eqb x f.number) h (put_again_line x v fs e)
     where
       by : (t : Bool) → cond t (Some f) (find x fs) ≡ Some e → (find x fs ≡ Some e → line_put x v (leaf fs) ≡ leaf (put_on x v fs)) → cond t (record { number = f.number; look = (line_of f).look; put = Some v } ∷ leaf fs) (line_of f ∷ line_put x v (leaf fs)) ≡ leaf (cond t (with_value v f ∷ fs) (f ∷ put_on x v fs))
@@ -44,7 +43,7 @@ module _ {S R : Type 0} where
   put_new_line x row v (f ∷ fs) h = by (eqb x f.number) h (put_new_line x row v fs)
     where
       by : (t : Bool) → cond t (Some f) (find x fs) ≡ None → (find x fs ≡ None → line_put x v (leaf fs) ≡ leaf (fs ++ (put_unseen x row v ∷ []))) → cond t (record { number = f.number; look = (line_of f).look; put = Some v } ∷ leaf fs) (line_of f ∷ line_put x v (leaf fs)) ≡ line_of f ∷ leaf (fs ++ (put_unseen x row v ∷ []))
-      by true h ih = absurd (some-none h)
+      by true h ih = absurd (some_none h)
       by false h ih = ap (λ ls. line_of f ∷ ls) (ih h)
 
   -- a noted look has its line
@@ -57,9 +56,9 @@ module _ {S R : Type 0} where
       ap (λ b. line_looked b x (record { value = row.value; stamp = row.write }) (leaf es)) (no_line x es h) ∙ leaf_push es (looked x row)
 
   -- tuning leaves the lines as they are
-  pub leaf-closed : (first : ℕ → Option S) (es : List (Entry S R)) → leaf (map (closed_by first) es) ≡ leaf es
-  leaf-closed first [] = refl
-  leaf-closed first (e ∷ es) = by (e.opened && is_some (first e.number)) (leaf-closed first es)
+  pub leaf_closed : (first : ℕ → Option S) (es : List (Entry S R)) → leaf (map (closed_by first) es) ≡ leaf es
+  leaf_closed first [] = refl
+  leaf_closed first (e ∷ es) = by (e.opened && is_some (first e.number)) (leaf_closed first es)
     where
       by : (t : Bool) → leaf (map (closed_by first) es) ≡ leaf es → leaf (cond t (closed e) e ∷ map (closed_by first) es) ≡ leaf (e ∷ es)
       by true h = ap (λ ls. line_of e ∷ ls) h
@@ -91,7 +90,7 @@ module _ {S R : Type 0} where
     pub is : x ≡ entry.number
 
   pub put_from : (es : List (Entry S R)) (x : ℕ) (v : R) → put_of x (puts_of (leaf es)) ≡ Some v → FromPut es x
-  put_from [] x v h = absurd (some-none (sym h))
+  put_from [] x v h = absurd (some_none (sym h))
   put_from (e ∷ es) x v h = by e.put refl h (put_from es x v)
     where
       deeper : FromPut es x → FromPut (e ∷ es) x
@@ -121,7 +120,7 @@ module _ {S R : Type 0} where
   not_found x (f ∷ fs) h a m = by (eqb x f.number) refl h (not_found x fs)
     where
       by : (t : Bool) → eqb x f.number ≡ t → cond t (Some f) (find x fs) ≡ None → (find x fs ≡ None → (a : Entry S R) → In a fs → a.number ≢ x) → a.number ≢ x
-      by true e h ih = absurd (some-none h)
+      by true e h ih = absurd (some_none h)
       by false e h ih = ⊎_elim (λ i q. eqb-false x f.number e (sym q ∙ ap (λ (z : Entry S R). z.number) i)) (λ n. ih h a n) (in_cons m)
 
   pub distinct_push : (es : List (Entry S R)) (e : Entry S R) → Distinct es → find e.number es ≡ None → Distinct (es ++ (e ∷ []))

@@ -1,13 +1,13 @@
 -- From what holds of the accepted jobs to the play, in every serial order.
-use Rattle.std.proofs.Common.{◌≡◌, ℕ, ◌⊎◌, List, [], ◌∷◌, ◌++◌, Some, None, Option, sym, refl, ap, ◌∙◌, subst, inl, inr, ⊎_elim}
+use Rattle.std.proofs.Common.{◌≡◌, ℕ, ◌⊎◌, List, [], ◌∷◌, Some, None, Option, sym, refl, ap, ◌∙◌, subst, inl, inr, ⊎_elim}
 use mathlib.Core.List.{Permᴰ}
 use Rattle.std.specs.Option.{option_map}
-use Rattle.std.specs.List.{AllByRecursion, slice_get}
+use Rattle.std.specs.List.{slice_get}
 use Rattle.kinds.specs.Stamps.{Order, Ordered}
 use Rattle.model.specs.Rows.{Stood}
 use Rattle.law.specs.Daybook.{Look, AcceptedJob}
 use Rattle.law.specs.Account.{StandingAt, put_of, under, after_job, played, BorneOut, NeverFalls, SerialOrder, at_opening}
-use Rattle.law.proofs.StampOrder.{some-none, some_inj, Lt, Le, not_both, le_refl}
+use Rattle.law.proofs.StampOrder.{some_none, some_inj, Lt, Le, not_both, le_refl}
 use Rattle.law.proofs.Members.{In, in_none, in_cons, here, there, all_in, in_all, in_arranged, turned, Pairs, pairs_arranged}
 
 module _ {S R : Type 0} (o : Order S) where
@@ -32,11 +32,11 @@ module _ {S R : Type 0} (o : Order S) (values : List R) where
   abbrev pub Origin : List (AcceptedJob S R) → ℕ → Stood S R → Type 0
   Origin jobs x w = (at_opening o values x ≡ Some w) ⊎ Wrote jobs x w
 
-  pub opening-stamp : (x : ℕ) (w : Stood S R) → at_opening o values x ≡ Some w → w.stamp ≡ o.least
-  opening-stamp x w e = by (slice_get values x) e
+  pub opening_stamp : (x : ℕ) (w : Stood S R) → at_opening o values x ≡ Some w → w.stamp ≡ o.least
+  opening_stamp x w e = by (slice_get values x) e
     where
       by : (p : Option R) → option_map (λ v. record { value = v; stamp = o.least }) p ≡ Some w → w.stamp ≡ o.least
-      by None e = absurd (some-none (sym e))
+      by None e = absurd (some_none (sym e))
       by (Some v) e = cc
 
   -- what the accepted jobs keep
@@ -80,19 +80,19 @@ module _ {S R : Type 0} (o : Order S) (laws : Ordered o) (values : List R) where
         deeper : put_of x d.puts ≡ None → Origin o values ds x w
         deeper n =
             ⊎_elim inl
-            (λ h. ⊎_elim (λ e. absurd (some-none (sym h.puts ∙ ap (λ (z : AcceptedJob S R). put_of x z.puts) e ∙ n)))
+            (λ h. ⊎_elim (λ e. absurd (some_none (sym h.puts ∙ ap (λ (z : AcceptedJob S R). put_of x z.puts) e ∙ n)))
             (λ m. inr (record { job = h.job; member = m; puts = h.puts; stamps = h.stamps })) (in_cons h.member))
             origin
 
-        none-later : (h : Wrote (d ∷ ds) x w) (u : R) → put_of x d.puts ≡ Some u → In h.job ds → ⊥
-        none-later h u e m =
+        none_later : (h : Wrote (d ∷ ds) x w) (u : R) → put_of x d.puts ≡ Some u → In h.job ds → ⊥
+        none_later h u e m =
             let up : Le o h.job.stamp d.stamp = falling.0 h.job m in
             let down : Le o d.stamp h.job.stamp = subst (λ (z : S). Le o d.stamp z) (sym h.stamps) (low d here u e) in
             ⊎_elim (λ k. not_both o laws _ _ k up) (λ k. not_both o laws _ _ k down) ((pairs.0 h.job m).0.apart x u w.value e h.puts)
 
         -- no job is at the opening's stamp
         not_opening : (u : R) → put_of x d.puts ≡ Some u → at_opening o values x ≡ Some w → ⊥
-        not_opening u e f = not_both o laws _ _ (risen d here) (subst (λ (z : S). Le o d.stamp z) (opening-stamp o values x w f) (low d here u e))
+        not_opening u e f = not_both o laws _ _ (risen d here) (subst (λ (z : S). Le o d.stamp z) (opening_stamp o values x w f) (low d here u e))
 
         by : (p : Option R) → put_of x d.puts ≡ p → (Origin o values ds x w → standing o values ds x ≡ Some w) → under d.stamp p (standing o values ds x) ≡ Some w
         by None e ih = ih (deeper e)
@@ -102,7 +102,7 @@ module _ {S R : Type 0} (o : Order S) (laws : Ordered o) (values : List R) where
             (λ f. let v : u ≡ w.value = some_inj (sym e ∙ ap (λ (z : AcceptedJob S R). put_of x z.puts) (sym f) ∙ h.puts) in
             let s : d.stamp ≡ w.stamp = ap (λ (z : AcceptedJob S R). z.stamp) (sym f) ∙ h.stamps in
             λ i. Some (record { value = v i; stamp = s i }))
-            (λ m. absurd (none-later h u e m)) (in_cons h.member))
+            (λ m. absurd (none_later h u e m)) (in_cons h.member))
             origin
 
   -- an order cut in two: the jobs already played, newest first, and the rest
@@ -158,8 +158,8 @@ module _ {S R : Type 0} (o : Order S) (laws : Ordered o) (values : List R) where
           (λ n. not_both o laws _ _ (before_d h) (all_in (λ (e : AcceptedJob S R). Le o d.stamp e.stamp) n c.rising.0)) (in_cons k)))
           (c.split h.job h.member)
 
-      look-stands : standing o values past l.number ≡ Some l.saw
-      look-stands =
+      look_stands : standing o values past l.number ≡ Some l.saw
+      look_stands =
           stands l.number l.saw past c.pairs c.falling (λ e n. sound.risen e (c.back e n))
           (λ e n v q. ⊎_elim (λ k. k) (λ k. absurd (not_both o laws _ _ k (c.over d e here n))) ((c.cross d e here n).0.clear l m v q))
           (⊎_elim inl (λ h. inr (record { job = h.job; member = earlier h; puts = h.puts; stamps = h.stamps })) (sound.origin d (c.fore d here) l m))
@@ -167,7 +167,7 @@ module _ {S R : Type 0} (o : Order S) (laws : Ordered o) (values : List R) where
     borne_from : (past rest : List (AcceptedJob S R)) → Cut all past rest → BorneOut (standing o values past) rest
     borne_from past [] c = tt
     borne_from past (d ∷ ds) c =
-        (in_all (λ (l : Look S R). standing o values past l.number ≡ Some l.saw) d.looks (λ l m. look-stands past d ds c l m), borne_from (d ∷ past) ds (cut_on all past d ds c))
+        (in_all (λ (l : Look S R). standing o values past l.number ≡ Some l.saw) d.looks (λ l m. look_stands past d ds c l m), borne_from (d ∷ past) ds (cut_on all past d ds c))
 
     ends_from : (x : ℕ) (w : Stood S R) → ((d : AcceptedJob S R) → In d all → (v : R) → put_of x d.puts ≡ Some v → Le o d.stamp w.stamp) → Origin o values all x w → (past rest : List (AcceptedJob S R)) → Cut all past rest → played (standing o values past) rest x ≡ Some w
     ends_from x w low origin past [] c =

@@ -7,22 +7,22 @@ use Rattle.station.specs.Station.{Station, work_of}
 use Rattle.registrar.specs.Deciding.{Waiting}
 use Rattle.registrar.specs.Registry.{Registry, registry_sized, queued_at, waiting_at, waiting_from, queue_of, next_place, submitted, decided_own}
 use Rattle.model.proofs.Laid.{block_new, block_other}
-use Rattle.law.proofs.RowLaws.{nth-some, nth-set}
+use Rattle.law.proofs.RowLaws.{nth_some, nth-set}
 use Rattle.law.proofs.Sizes.{sizes}
 
 -- The queue is the same where its tables and its two numbers are.
 module _ {S R : Type 0} (g h : Registry S R) where
-  waiting_at-same : (place : ℕ) → queued_at g place ≡ queued_at h place → (m : Option (Submission S)) → waiting_at g place m ≡ waiting_at h place m
-  waiting_at-same place e None = refl
-  waiting_at-same place e (Some q) = λ i. record { ticket = q.ticket; lower = q.lower; upper = q.upper; entries = take q.count (e i) } ∷ []
+  waiting_at_same : (place : ℕ) → queued_at g place ≡ queued_at h place → (m : Option (Submission S)) → waiting_at g place m ≡ waiting_at h place m
+  waiting_at_same place e None = refl
+  waiting_at_same place e (Some q) = λ i. record { ticket = q.ticket; lower = q.lower; upper = q.upper; entries = take q.count (e i) } ∷ []
 
-  pub waiting-same : g.queue ≡ h.queue → g.queued ≡ h.queued → (p n : ℕ) → waiting_from g p n ≡ waiting_from h p n
-  waiting-same a b p zero = refl
-  waiting-same a b p (suc n) =
-      (λ i. waiting_at-same (p % 16) (ap (λ es. take 16 (drop (16 * (p % 16)) es)) b) (slice_get (a i) (p % 16)) i ++ waiting-same a b (p + 1) n i)
+  pub waiting_same : g.queue ≡ h.queue → g.queued ≡ h.queued → (p n : ℕ) → waiting_from g p n ≡ waiting_from h p n
+  waiting_same a b p zero = refl
+  waiting_same a b p (suc n) =
+      (λ i. waiting_at_same (p % 16) (ap (λ es. take 16 (drop (16 * (p % 16)) es)) b) (slice_get (a i) (p % 16)) i ++ waiting_same a b (p + 1) n i)
 
   pub queue_kept : g.queue ≡ h.queue → g.queued ≡ h.queued → g.own.oldest ≡ h.own.oldest → g.own.waiting ≡ h.own.waiting → queue_of g ≡ queue_of h
-  queue_kept a b c d = waiting-same a b g.own.oldest (min g.own.waiting 16) ∙ (λ i. waiting_from h (c i) (min (d i) 16))
+  queue_kept a b c d = waiting_same a b g.own.oldest (min g.own.waiting 16) ∙ (λ i. waiting_from h (c i) (min (d i) 16))
 
 -- Places count round the ring, each holds a submission, and one more comes last.
 module _ {S R : Type 0} (g : Registry S R) where
@@ -41,15 +41,15 @@ module _ {S R : Type 0} (g : Registry S R) where
       ∙ ap (λ m. waiting_from g p (suc n) ++ at_place m) on
 
   pub place_taken : registry_sized g ≡ true → (p : ℕ) → (q : Submission S) × (slice_get g.queue (p % 16) ≡ Some q)
-  place_taken z p = let t = sizes g z in nth-some g.queue (p % 16) (omega arith)
+  place_taken z p = let t = sizes g z in nth_some g.queue (p % 16) (omega arith)
 
   length-waiting : registry_sized g ≡ true → (p n : ℕ) → length (waiting_from g p n) ≡ n
   length-waiting z p zero = refl
   length-waiting z p (suc n) =
       let q = place_taken z p in let e = length-waiting z (p + 1) n in rw q.1 (omega arith)
 
-  pub queue-length : registry_sized g ≡ true → length (queue_of g) ≡ min g.own.waiting 16
-  queue-length z = length-waiting z g.own.oldest (min g.own.waiting 16)
+  pub queue_length : registry_sized g ≡ true → length (queue_of g) ≡ min g.own.waiting 16
+  queue_length z = length-waiting z g.own.oldest (min g.own.waiting 16)
 
 -- A submission comes last, and the places before it keep theirs.
 module _ {S R : Type 0} where
@@ -66,7 +66,7 @@ module _ {S R : Type 0} (g : Registry S R) (t : Station S R) (z : registry_sized
   place_kept : (p : ℕ) → p ≢ next_place g → waiting_at (submitted g t) p (slice_get (submitted g t).queue p) ≡ waiting_at g p (slice_get g.queue p)
   place_kept p d =
       ap (waiting_at (submitted g t) p) (nth-set g.queue (next_place g) p _ ∙ simp (ne_eqb p (next_place g) d))
-      ∙ waiting_at-same (submitted g t) g p (block_other (next_place g) (work_of t).entries g.queued p d n room) (slice_get g.queue p)
+      ∙ waiting_at_same (submitted g t) g p (block_other (next_place g) (work_of t).entries g.queued p d n room) (slice_get g.queue p)
 
   places_kept : (p m : ℕ) → p + m ≤ g.own.oldest + g.own.waiting → g.own.oldest + g.own.waiting < p + 16 → waiting_from (submitted g t) p m ≡ waiting_from g p m
   places_kept p zero a b = refl
@@ -101,5 +101,5 @@ pub queue_decided : {S R : Type 0} (g h : Registry S R) (n : ℕ) (w : Waiting S
 queue_decided g h n w ws z a b c e =
     let from = ap (λ r. r.oldest) c in
     let left : min h.own.waiting 16 ≡ min g.own.waiting 16 - 1 = omega (arith, ap (λ r. r.waiting) c) in
-    waiting-same h g a b h.own.oldest (min h.own.waiting 16) ∙ (λ i. waiting_from g (from i) (left i))
+    waiting_same h g a b h.own.oldest (min h.own.waiting 16) ∙ (λ i. waiting_from g (from i) (left i))
     ∙ waiting_round g _ (g.own.oldest + 1) (min g.own.waiting 16 - 1) (omega arith) ∙ behind_first g z g.own.oldest (min g.own.waiting 16) w ws e

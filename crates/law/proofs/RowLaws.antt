@@ -34,14 +34,14 @@ module _ {S R : Type 0} (v : R) (s : S) (r : Row S R) where
   pub write_put : write_of (with_put v s r) ≡ s
   write_put = all_counts (λ (n : Row S R). write_of n ≡ s) r.count _ _ _ _ refl refl refl refl
 
-  pub value-put : (with_put v s r).value ≡ v
-  value-put = all_counts (λ (n : Row S R). n.value ≡ v) r.count _ _ _ _ refl refl refl refl
+  pub value_put : (with_put v s r).value ≡ v
+  value_put = all_counts (λ (n : Row S R). n.value ≡ v) r.count _ _ _ _ refl refl refl refl
 
-  pub read-put : (with_put v s r).read ≡ r.read
-  read-put = all_counts (λ (n : Row S R). n.read ≡ r.read) r.count _ _ _ _ refl refl refl refl
+  pub read_put : (with_put v s r).read ≡ r.read
+  read_put = all_counts (λ (n : Row S R). n.read ≡ r.read) r.count _ _ _ _ refl refl refl refl
 
-  pub older-put : older (with_put v s r) ≡ take 3 (write_of r ∷ older r)
-  older-put = go (leb r.count 1) (eqb r.count 2) (eqb r.count 3)
+  pub older_put : older (with_put v s r) ≡ take 3 (write_of r ∷ older r)
+  older_put = go (leb r.count 1) (eqb r.count 2) (eqb r.count 3)
     where
       go : (x y z : Bool) → older (by_tests x y z
           (record { value = v; read = r.read; count = 2; one = r.one; two = s; three = r.three; four = r.four })
@@ -57,10 +57,10 @@ module _ {S R : Type 0} (v : R) (s : S) (r : Row S R) where
 
 -- What stands at a place of a table: inside it, after a write, and in a table of one content.
 module _ {A : Type 0} where
-  pub nth-some : (xs : List A) (x : ℕ) → x < length xs → (a : A) × (slice_get xs x ≡ Some a)
-  nth-some [] x h = absurd (not-suc-le-zero h)
-  nth-some (a ∷ xs) zero h = (a, refl)
-  nth-some (a ∷ xs) (suc x) h = nth-some xs x (le_of_suc-le-suc h)
+  pub nth_some : (xs : List A) (x : ℕ) → x < length xs → (a : A) × (slice_get xs x ≡ Some a)
+  nth_some [] x h = absurd (not-suc-le-zero h)
+  nth_some (a ∷ xs) zero h = (a, refl)
+  nth_some (a ∷ xs) (suc x) h = nth_some xs x (le_of_suc-le-suc h)
 
   pub nth_inside : (xs : List A) (x : ℕ) (a : A) → slice_get xs x ≡ Some a → x < length xs
   nth_inside [] x a e = let z : ◌≡◌ {A = ℕ} 0 1 = cc in omega arith
@@ -258,14 +258,14 @@ module _ {S R : Type 0} (o : Order S) where
   founded_from (v ∷ vs) (a ∷ rows) (suc x) r h =
       let k = founded_from vs rows x r h in record { value = k.value; old = k.old; value_there = k.value_there; is = k.is }
 
-  pub founded-none : (values : List R) (rows : List (Row S R)) (x : ℕ) → slice_get values x ≡ None → slice_get (founded_rows o values rows) x ≡ None
-  founded-none [] rows x h = refl
-  founded-none (v ∷ vs) [] x h = refl
-  founded-none (v ∷ vs) (a ∷ rows) zero h = cc
-  founded-none (v ∷ vs) (a ∷ rows) (suc x) h = founded-none vs rows x h
+  pub founded_none : (values : List R) (rows : List (Row S R)) (x : ℕ) → slice_get values x ≡ None → slice_get (founded_rows o values rows) x ≡ None
+  founded_none [] rows x h = refl
+  founded_none (v ∷ vs) [] x h = refl
+  founded_none (v ∷ vs) (a ∷ rows) zero h = cc
+  founded_none (v ∷ vs) (a ∷ rows) (suc x) h = founded_none vs rows x h
 
-  pub founded-stands : (values : List R) (rows : List (Row S R)) (x : ℕ) → length values ≡ length rows → option_map stood (slice_get (founded_rows o values rows) x) ≡ option_map (λ v. record { value = v; stamp = o.least }) (slice_get values x)
-  founded-stands [] rows x h = refl
-  founded-stands (v ∷ vs) [] x h = absurd (suc-ne-zero (length vs) h)
-  founded-stands (v ∷ vs) (a ∷ rows) zero h = refl
-  founded-stands (v ∷ vs) (a ∷ rows) (suc x) h = founded-stands vs rows x (suc_inj h)
+  pub founded_stands : (values : List R) (rows : List (Row S R)) (x : ℕ) → length values ≡ length rows → option_map stood (slice_get (founded_rows o values rows) x) ≡ option_map (λ v. record { value = v; stamp = o.least }) (slice_get values x)
+  founded_stands [] rows x h = refl
+  founded_stands (v ∷ vs) [] x h = absurd (suc-ne-zero (length vs) h)
+  founded_stands (v ∷ vs) (a ∷ rows) zero h = refl
+  founded_stands (v ∷ vs) (a ∷ rows) (suc x) h = founded_stands vs rows x (suc_inj h)

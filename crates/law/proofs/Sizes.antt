@@ -54,8 +54,8 @@ module _ {S R : Type 0} where
         lines = eqb-true _ _ l.1;
       }
 
-  pub tables-by : (n : ℕ) (g : Registry S R) → Tables n g → tables_sized n g ≡ true
-  tables-by n g t =
+  pub tables_by : (n : ℕ) (g : Registry S R) → Tables n g → tables_sized n g ≡ true
+  tables_by n g t =
       and_from _ _ t.records (and_from _ _ (eq-eqb _ _ t.rows) (and_from _ _ (eq-eqb _ _ t.firsts) (and_from _ _ (eq-eqb _ _ t.opening)
       (and_from _ _ (eq-eqb _ _ t.queue) (and_from _ _ (eq-eqb _ _ t.queued) (and_from _ _ (eq-eqb _ _ t.outcomes)
       (and_from _ _ (and_from _ _ (le-leb _ _ t.some_head) (le-leb _ _ t.heads)) (eq-eqb _ _ t.lines))))))))
@@ -63,14 +63,14 @@ module _ {S R : Type 0} where
   pub sizes : (g : Registry S R) → registry_sized g ≡ true → Sizes g
   sizes g h = tables g.own.records g h
 
-  pub sized-by : (g : Registry S R) → Sizes g → registry_sized g ≡ true
-  sized-by g t = tables-by g.own.records g t
+  pub sized_by : (g : Registry S R) → Sizes g → registry_sized g ≡ true
+  sized_by g t = tables_by g.own.records g t
 
   -- submit, publish and found leave tables of the right lengths
-  pub sized-submitted : (g : Registry S R) (t : Station S R) → registry_sized g ≡ true → length (work_of t).entries ≤ 16 → registry_sized (submitted g t) ≡ true
-  sized-submitted g t h n =
+  pub sized_submitted : (g : Registry S R) (t : Station S R) → registry_sized g ≡ true → length (work_of t).entries ≤ 16 → registry_sized (submitted g t) ≡ true
+  sized_submitted g t h n =
       let z = sizes g h in
-      sized-by (submitted g t)
+      sized_by (submitted g t)
       (record {
         records = z.records;
         rows = z.rows;
@@ -84,10 +84,10 @@ module _ {S R : Type 0} where
         lines = z.lines;
       })
 
-  pub sized-cleared : (g : Registry S R) → registry_sized g ≡ true → registry_sized (cleared g) ≡ true
-  sized-cleared g h =
+  pub sized_cleared : (g : Registry S R) → registry_sized g ≡ true → registry_sized (cleared g) ≡ true
+  sized_cleared g h =
       let z = sizes g h in
-      sized-by (cleared g)
+      sized_by (cleared g)
       (record {
         records = z.records;
         rows = z.rows;
@@ -101,10 +101,10 @@ module _ {S R : Type 0} where
         lines = z.lines;
       })
 
-  pub sized-founded : (o : Order S) (values : List R) (g : Registry S R) → tables_sized (length values) g ≡ true → registry_sized (founded o values g) ≡ true
-  sized-founded o values g h =
+  pub sized_founded : (o : Order S) (values : List R) (g : Registry S R) → tables_sized (length values) g ≡ true → registry_sized (founded o values g) ≡ true
+  sized_founded o values g h =
       let z = tables (length values) g h in
-      sized-by (founded o values g)
+      sized_by (founded o values g)
       (record {
         records = z.records;
         rows = length-founded o values g.rows (sym z.rows);
@@ -132,7 +132,7 @@ module _ {S R : Type 0} (k : Kind S) where
   pub sized_passed : (g : Registry S R) (w : Waiting S R) (v : Verdict S) → registry_sized g ≡ true → registry_sized (passed_over k g w v) ≡ true
   sized_passed g w v h =
       let z = sizes g h in
-      sized-by (passed_over k g w v)
+      sized_by (passed_over k g w v)
       (record {
         records = z.records;
         rows = z.rows;
@@ -157,7 +157,7 @@ module _ {S R : Type 0} (k : Kind S) where
       let z = sizes g h in
       let a = heads_taken g w s j in
       let b = lines_taken g w s h j n in
-      sized-by (taken_up k g w s)
+      sized_by (taken_up k g w s)
       (record {
         records = z.records;
         rows = length-rows_after k.order s w.entries g.rows ∙ z.rows;

@@ -1,5 +1,5 @@
 -- What the laws of a stamp kind give of its order and of bounds.
-use Rattle.std.proofs.Common.{◌≡◌, ℕ, Bool, true, false, cond, not, ◌&&◌, ◌⊎◌, Some, None, Option, sym, refl, ap, ◌∙◌, subst, inl, inr, ⊎_elim, arith}
+use Rattle.std.proofs.Common.{◌≡◌, ℕ, Bool, true, false, cond, not, ◌⊎◌, Some, None, Option, sym, refl, ◌∙◌, subst, inl, inr, ⊎_elim, arith}
 use Rattle.std.proofs.lemmas.Bool.{both_ways, cases_Bool, and_parts, not-true}
 use Rattle.kinds.specs.Stamps.{Order, Ordered, Kind, Lawful, Before, Same}
 use Rattle.kinds.specs.Bounds.{same, later, earlier, NotAfter}
@@ -7,8 +7,8 @@ use Rattle.kinds.proofs.Orders.{fails, same_not_before}
 use Rattle.kinds.proofs.Orders as orders
 use Rattle.station.specs.Station.{narrowed}
 
-pub some-none : {A : Type 0} {a : A} → Some a ≡ None → ⊥
-some-none e = let z : ◌≡◌ {A = ℕ} 0 1 = cc in omega arith
+pub some_none : {A : Type 0} {a : A} → Some a ≡ None → ⊥
+some_none e = let z : ◌≡◌ {A = ℕ} 0 1 = cc in omega arith
 
 pub some_inj : {A : Type 0} {a b : A} → Some a ≡ Some b → a ≡ b
 some_inj e = cc
@@ -100,7 +100,7 @@ module _ {S : Type 0} (o : Order S) (laws : Ordered o) where
   narrow_new (Some u) f = record { bound = cond (o.before f u) f u; is = refl; low = earlier_right u f }
 
   narrow_old : (u : Option S) (f g : S) → Under u g → Under (Some (earlier o u f)) g
-  narrow_old None f g h = absurd (some-none (sym h.is))
+  narrow_old None f g h = absurd (some_none (sym h.is))
   narrow_old (Some u) f g h =
       record {
         bound = cond (o.before f u) f u;
@@ -114,12 +114,12 @@ module _ {S : Type 0} (o : Order S) (laws : Ordered o) where
   narrowed_old u (Some f) g h = narrow_old u f g h
 
   pub narrowed_new : (u f : Option S) (g : S) → f ≡ Some g → Under (narrowed o u f) g
-  narrowed_new u None g e = absurd (some-none (sym e))
+  narrowed_new u None g e = absurd (some_none (sym e))
   narrowed_new u (Some f) g e = subst (λ (z : S). Under (Some (earlier o u f)) z) (some_inj e) (narrow_new u f)
 
 module _ {S : Type 0} (k : Kind S) (laws : Lawful k) where
-  pub pick-after : (lower : S) (upper : Option S) (s : S) → k.pick lower upper ≡ Some s → Lt k.order lower s
-  pick-after lower upper s p = (laws.picks.inside lower upper s p).0
+  pub pick_after : (lower : S) (upper : Option S) (s : S) → k.pick lower upper ≡ Some s → Lt k.order lower s
+  pick_after lower upper s p = (laws.picks.inside lower upper s p).0
 
   pub pick_under : (lower : S) (u : Option S) (s f : S) → k.pick lower u ≡ Some s → Under k.order laws.ordered u f → Lt k.order s f
   pick_under lower u s f p h =

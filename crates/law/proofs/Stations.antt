@@ -6,14 +6,14 @@ use Rattle.model.proofs.Laid.{length-laid, take-laid, laid_same}
 
 module _ {S R : Type 0} where
   -- as many entries count as the job says, and a sheet keeps its length
-  pub entries-count : (t : Station S R) → t.job.count ≤ length t.sheet → length (work_of t).entries ≡ t.job.count
-  entries-count t h = simp length-take (omega arith)
+  pub entries_count : (t : Station S R) → t.job.count ≤ length t.sheet → length (work_of t).entries ≡ t.job.count
+  entries_count t h = simp length-take (omega arith)
 
-  pub sheet-back : (t : Station S R) (w : Work S R) → length w.entries ≤ length t.sheet → length (put_back t w).sheet ≡ length t.sheet
-  sheet-back t w h = length-laid w.entries t.sheet h
+  pub sheet_back : (t : Station S R) (w : Work S R) → length w.entries ≤ length t.sheet → length (put_back t w).sheet ≡ length t.sheet
+  sheet_back t w h = length-laid w.entries t.sheet h
 
-  pub count-back : (t : Station S R) (w : Work S R) → t.job.count ≤ length t.sheet → t.job.count ≤ length w.entries → length w.entries ≤ length t.sheet → (put_back t w).job.count ≤ length (put_back t w).sheet
-  count-back t w c d h = let e = sheet-back t w h in omega arith
+  pub count_back : (t : Station S R) (w : Work S R) → t.job.count ≤ length t.sheet → t.job.count ≤ length w.entries → length w.entries ≤ length t.sheet → (put_back t w).job.count ≤ length (put_back t w).sheet
+  count_back t w c d h = let e = sheet_back t w h in omega arith
 
   -- a job put back unaltered leaves its station as it was
   pub unaltered : (t : Station S R) → put_back t (work_of t) ≡ t
@@ -23,8 +23,8 @@ module _ {S R : Type 0} where
       λ i. record { job = record { image = t.job.image; lower = t.job.lower; upper = t.job.upper; standing = t.job.standing; count = c i }; sheet = e i }
 
   -- a job put back with no fewer entries is read off the sheet as it was put back
-  pub work-back : (t : Station S R) (w : Work S R) → t.job.count ≤ length t.sheet → t.job.count ≤ length w.entries → length w.entries ≤ length t.sheet → work_of (put_back t w) ≡ w
-  work-back t w c d h =
+  pub work_back : (t : Station S R) (w : Work S R) → t.job.count ≤ length t.sheet → t.job.count ≤ length w.entries → length w.entries ≤ length t.sheet → work_of (put_back t w) ≡ w
+  work_back t w c d h =
       let m : max t.job.count (length w.entries) ≡ length w.entries = omega arith in
       let e = ap (λ n. take n (laid w.entries t.sheet)) m ∙ take-laid w.entries t.sheet in
       λ i. record { image = w.image; lower = w.lower; upper = w.upper; standing = w.standing; entries = e i }

@@ -1,5 +1,5 @@
 -- The words in which the proofs speak of tables: leaves of sheets, rows by record, the journal as a list of jobs.
-use Rattle.std.proofs.Common.{ℕ, Bool, true, false, cond, ◌||◌, eqb, ◌≢◌, List, [], ◌∷◌, map, Some, None, Option}
+use Rattle.std.proofs.Common.{ℕ, Bool, false, cond, ◌||◌, eqb, ◌≢◌, List, [], ◌∷◌, map, Some, None, Option}
 use Rattle.kinds.specs.Stamps.{Order}
 use Rattle.model.specs.declared.entry.Entry.{Entry}
 use Rattle.model.specs.declared.row.Row.{Row}
@@ -23,12 +23,12 @@ module _ {S R : Type 0} where
   looks_at x (l ∷ ls) = eqb x l.number || looks_at x ls
 
   -- a row after a job that puts a value there, if it does, and looks at it, if it does
-  abbrev pub put-by : S → Option R → Row S R → Row S R
-  put-by s None r = r
-  put-by s (Some v) r = with_put v s r
+  abbrev pub put_by : S → Option R → Row S R → Row S R
+  put_by s None r = r
+  put_by s (Some v) r = with_put v s r
 
   abbrev pub accepted_row : Order S → S → Option R → Bool → Row S R → Row S R
-  accepted_row o s p b r = put-by s p (look_noted o s b r)
+  accepted_row o s p b r = put_by s p (look_noted o s b r)
 
   abbrev pub first_by : S → Option R → Option S → Option S
   first_by s None f = f

@@ -1,5 +1,5 @@
 -- The law of runs: the stamp order accounts for all that was accepted.
-use Rattle.std.specs.Prelude.{◌≡◌, ℕ, Bool, true, false, cond, List, [], ◌∷◌, Some, None, Ok, filter, Option, ◌==◌}
+use Rattle.std.specs.Prelude.{◌≡◌, ℕ, cond, List, [], ◌∷◌, Some, None, Ok, filter, Option, ◌==◌}
 use mathlib.Core.List.{Permᴰ}
 use Rattle.std.specs.Option.{option_map}
 use Rattle.std.specs.List.{AllByRecursion, slice_get}
@@ -8,7 +8,7 @@ use Rattle.kinds.specs.Bounds.{same, NotAfter}
 use Rattle.model.specs.Rows.{Stood, stood}
 use Rattle.registrar.specs.Registry.{Registry, found}
 use Rattle.law.specs.Daybook.{Look, Put, AcceptedJob, Daybook, journal_of}
-use Rattle.law.specs.Runs.{Call, Run, run, start}
+use Rattle.law.specs.Runs.{Call, run, start}
 
 -- what stands at each record, if the register has it
 abbrev pub StandingAt : Type 0 → Type 0 → Type 0

@@ -1,5 +1,5 @@
 -- The worked cases: picks, written forms, and runs of whole stamps on a register of two records.
-use Rattle.std.specs.Prelude.{◌≡◌, ℕ, true, false, List, [], ◌∷◌, ◌++◌, map, replicate, Some, None, Option}
+use Rattle.std.specs.Prelude.{◌≡◌, ℕ, false, List, [], ◌∷◌, ◌++◌, replicate, Some, None, Option}
 use Rattle.std.specs.Option.{option_map}
 use Rattle.kinds.specs.Whole.{whole, whole_kind}
 use Rattle.kinds.specs.Volume.{volume_page, volume_kind}
@@ -9,19 +9,12 @@ use Rattle.kinds.specs.declared.whole.Whole.{Whole}
 use Rattle.kinds.specs.declared.card.Unit.TheVariants.{Metre, Inch}
 use Rattle.kinds.specs.declared.item.Item.TheVariants.{Solid, SubAssembly}
 use Rattle.model.specs.declared.entry.Entry.{Entry}
-use Rattle.model.specs.declared.row.Row.{Row}
-use Rattle.model.specs.declared.image.ImageRow.{ImageRow}
 use Rattle.model.specs.declared.verdict.Outcome.{Outcome}
-use Rattle.model.specs.declared.verdict.Verdict.{Verdict}
 use Rattle.model.specs.declared.verdict.Verdict.TheVariants.{Accepted, Overtaken, Gone, NoPlace}
 use Rattle.model.specs.declared.refusal.Refusal.TheVariants.{NoRoom}
-use Rattle.registrar.specs.declared.queue.Submission.{Submission}
 use Rattle.station.specs.declared.job.Standing.TheVariants.{Live}
-use Rattle.registrar.specs.declared.registrar.Registrar.{Registrar}
-use Rattle.registrar.specs.declared.journal.Head.{Head}
 use Rattle.station.specs.Station.{Image, Station}
 use Rattle.registrar.specs.Registry.{Registry}
-use Rattle.law.specs.Daybook.{AcceptedJob}
 use Rattle.law.specs.Runs.{Call, opens, looks, puts, tunes, submits, decides, publishes, Answer, refused, done, shown, stands, ticket, outcome, image, Run, next, run, step, start}
 
 -- tables with some content, for a register of two records and a journal of eight places

@@ -1,5 +1,5 @@
 -- What users lean on, after every run.
-use Rattle.std.specs.Prelude.{◌≡◌, ℕ, ◌<◌, ◌≤◌, ◌≢◌, List, [], ◌∷◌, map, length, Some, None, Ok, Option}
+use Rattle.std.specs.Prelude.{◌≡◌, ℕ, ◌<◌, ◌≤◌, ◌≢◌, List, [], ◌∷◌, map, length, Some, None, Ok}
 use Rattle.std.specs.List.{AllByRecursion, slice_get}
 use Rattle.kinds.specs.Stamps.{Order, Kind, Before}
 use Rattle.model.specs.declared.row.Row.{Row}

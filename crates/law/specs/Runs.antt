@@ -1,7 +1,7 @@
 -- Runs: any list of calls on one registrar after its founding, its jobs and their sheets.
 use Rattle.std.specs.Prelude.{ℕ, zero, suc, Bool, true, false, cond, List, [], ◌∷◌, ◌++◌, Some, None, Ok, Err, Option, Result}
 use Rattle.std.specs.List.{slice_get}
-use Rattle.kinds.specs.Stamps.{Order, Kind}
+use Rattle.kinds.specs.Stamps.{Kind}
 use Rattle.model.specs.declared.entry.Entry.{Entry}
 use Rattle.model.specs.declared.image.ImageRow.{ImageRow}
 use Rattle.model.specs.declared.verdict.Outcome.{Outcome}
@@ -9,10 +9,9 @@ use Rattle.model.specs.declared.verdict.Verdict.{Verdict}
 use Rattle.station.specs.declared.job.Job.{Job}
 use Rattle.station.specs.declared.job.Standing.{Standing}
 use Rattle.model.specs.declared.refusal.Refusal.{Refusal}
-use Rattle.model.specs.Rows.{Stood}
 use Rattle.station.specs.Station.{Image, Station, Answered, open_job, look_job, put_job, tune_job}
 use Rattle.registrar.specs.Registry.{Registry, Settled, Published, founded, submit, decide, publish}
-use Rattle.law.specs.Daybook.{Daybook, Line, blank, changed, with_leaf, has_line, line_looked, line_put, laid_behind, first_taken}
+use Rattle.law.specs.Daybook.{Daybook, blank, changed, with_leaf, has_line, line_looked, line_put, laid_behind, first_taken}
 
 -- The calls of a run. A job goes by its place, and an image by its number. Open brings the job's sheet, and publish the
 -- tables of the image, with any content and of any length.

@@ -24,8 +24,8 @@ module _ {A : Type 0} where
   length-laid_from at new table h = simp (length-append, length-drop, length-take) (omega arith)
 
   -- a part before the new places, the new places, and a part behind them
-  pub part-before : (at : ℕ) (new table : List A) (j n : ℕ) → j + n ≤ at → at ≤ length table → take n (drop j (laid_from at new table)) ≡ take n (drop j table)
-  part-before at new table j n h k = sym (drop-take j n _) ∙ ap (drop j) (take-put_mid_below at (length new) table new (j + n) h k) ∙ drop-take j n table
+  pub part_before : (at : ℕ) (new table : List A) (j n : ℕ) → j + n ≤ at → at ≤ length table → take n (drop j (laid_from at new table)) ≡ take n (drop j table)
+  part_before at new table j n h k = sym (drop-take j n _) ∙ ap (drop j) (take-put_mid_below at (length new) table new (j + n) h k) ∙ drop-take j n table
 
   pub part_new : (at : ℕ) (new table : List A) → at ≤ length table → take (length new) (drop at (laid_from at new table)) ≡ new
   part_new at new table h = ap (take (length new)) (drop_at (take at table) _ at (length-take-le at table h)) ∙ take-laid new (drop at table)
@@ -41,7 +41,7 @@ module _ {A : Type 0} where
   block_other at new table p d n h = ⊎_elim before behind (cases_lt p at)
     where
       before : p < at → take 16 (drop (16 * p) (laid_from (16 * at) new table)) ≡ take 16 (drop (16 * p) table)
-      before l = part-before (16 * at) new table (16 * p) 16 (omega arith) h
+      before l = part_before (16 * at) new table (16 * p) 16 (omega arith) h
 
       behind : at ≤ p → take 16 (drop (16 * p) (laid_from (16 * at) new table)) ≡ take 16 (drop (16 * p) table)
       behind l = let m : at < p = omega arith in part_behind (16 * at) new table (16 * p) 16 (omega arith) h

@@ -1,5 +1,5 @@
 -- The refusals, their numbers, and checks that run in order.
-use Rattle.std.specs.Prelude.{ℕ, Bool, true, false, Some, None, Option}
+use Rattle.std.specs.Prelude.{ℕ, Bool, true, false, Some, Option}
 use Rattle.model.specs.declared.refusal.Refusal.{Refusal}
 use Rattle.model.specs.declared.refusal.Refusal.TheVariants.{WrongTables, JobShut, OtherImage, NotNextImage, NoSuchRecord, SheetFull, NoRoom, QueueFull, NoneWaiting, JournalFull, OutcomesFull, NotInImage, CountEnded}
 

@@ -1,5 +1,5 @@
 -- Rows: what stands in them, and how a look or a put of an accepted job changes them.
-use Rattle.std.specs.Prelude.{ℕ, Bool, true, false, cond, List, [], ◌∷◌, Some, None, Option, ◌==◌, nat_le}
+use Rattle.std.specs.Prelude.{ℕ, cond, List, [], ◌∷◌, Option, ◌==◌, nat_le}
 use Rattle.kinds.specs.Stamps.{Order}
 use Rattle.kinds.specs.Bounds.{later}
 use Rattle.model.specs.declared.row.Row.{Row}

@@ -1,5 +1,5 @@
 -- Tables that the caller brings: their sizes, and what a write leaves in them.
-use Rattle.std.specs.Prelude.{ℕ, ◌+◌, Bool, ◌&&◌, List, [], ◌∷◌, ◌++◌, length, take, drop, ◌==◌, nat_le}
+use Rattle.std.specs.Prelude.{ℕ, Bool, ◌&&◌, List, ◌++◌, length, take, drop, ◌==◌, nat_le}
 
 -- a register has 1 to 1,024 records
 abbrev pub lawful_size : ℕ → Bool

@@ -9,16 +9,16 @@ use Rattle.std.proofs.lemmas.Str.Ascii.{encode_ascii}
 use Rattle.kinds.specs.Bytes.{Bytes}
 use Rattle.notation.specs.Hex.{hex, hex_digit, digit_value, byte_then, unhexed, ReadsBack}
 
-hex-append : (xs ys : List ℕ) → hex (xs ++ ys) ≡ hex xs ++ hex ys
-hex-append [] ys = refl
-hex-append (x ∷ xs) ys = ap (λ l. hex_digit (x / 16) ∷ hex_digit (x % 16) ∷ l) (hex-append xs ys)
+hex_append : (xs ys : List ℕ) → hex (xs ++ ys) ≡ hex xs ++ hex ys
+hex_append [] ys = refl
+hex_append (x ∷ xs) ys = ap (λ l. hex_digit (x / 16) ∷ hex_digit (x % 16) ∷ l) (hex_append xs ys)
 
 digit_small : (h : ℕ) → h < 16 → hex_digit h < 128
 digit_small h l = grind (arith, nat_tests)
 
 -- one more byte is written
 pub hex_more : (bs : List ℕ) (i : ℕ) → i < length bs → hex (take (i + 1) bs) ≡ hex (take i bs) ++ hex_digit (get_or bs i 0 / 16) ∷ hex_digit (get_or bs i 0 % 16) ∷ []
-hex_more bs i h = ap hex (take_more bs i 0 h) ∙ hex-append (take i bs) (get_or bs i 0 ∷ [])
+hex_more bs i h = ap hex (take_more bs i 0 h) ∙ hex_append (take i bs) (get_or bs i 0 ∷ [])
 
 -- the same, by the characters that were written
 pub hex_one : (bs : List ℕ) (i h l : ℕ) → i < length bs → h ≡ hex_digit (get_or bs i 0 / 16) → l ≡ hex_digit (get_or bs i 0 % 16) → get_or bs i 0 < 256 → (hex (take i bs) ++ encode h) ++ encode l ≡ hex (take (i + 1) bs)
@@ -95,13 +95,13 @@ read_all n i w xs h e l =
 digit_back : (h : ℕ) → h < 16 → digit_value (hex_digit h) ≡ Some h
 digit_back h l = grind (arith, nat_tests)
 
-hex-back : (bs : List ℕ) → Bytes bs → unhexed (length bs) (hex bs) ≡ Some bs
-hex-back [] h = refl
-hex-back (b ∷ bs) h =
+hex_back : (bs : List ℕ) → Bytes bs → unhexed (length bs) (hex bs) ≡ Some bs
+hex_back [] h = refl
+hex_back (b ∷ bs) h =
     let k = h 0 in
     let p = digit_back (b / 16) (omega arith) in
     let q = digit_back (b % 16) (omega arith) in
-    let r = hex-back bs (λ k. h (suc k)) in
+    let r = hex_back bs (λ k. h (suc k)) in
     let e : b / 16 * 16 + b % 16 ≡ b = omega arith in
     ap (λ o. byte_then o (digit_value (hex_digit (b % 16))) (unhexed (length bs) (hex bs))) p
     ∙ ap (λ o. byte_then (Some (b / 16)) o (unhexed (length bs) (hex bs))) q
@@ -111,8 +111,8 @@ hex-back (b ∷ bs) h =
 digit_forth : (c h : ℕ) → digit_value c ≡ Some h → (hex_digit h ≡ c) × (h < 16)
 digit_forth c h e = (grind (arith, nat_tests), grind (arith, nat_tests))
 
-none-some : {X : Type 0} (x : X) → None ≡ Some x → ⊥
-none-some x e = let z : ◌≡◌ {A = ℕ} 0 1 = cc in omega arith
+none_some : {X : Type 0} (x : X) → None ≡ Some x → ⊥
+none_some x e = let z : ◌≡◌ {A = ℕ} 0 1 = cc in omega arith
 
 hex_forth_byte : (a b : Option ℕ) (c d : ℕ) (ds bs : List ℕ) (o : Option (List ℕ)) → digit_value c ≡ a → digit_value d ≡ b → ((xs : List ℕ) → o ≡ Some xs → hex xs ≡ ds) → byte_then a b o ≡ Some bs → hex bs ≡ c ∷ d ∷ ds
 hex_forth_byte (Some h) (Some l) c d ds bs (Some xs) e f r q =
@@ -124,16 +124,16 @@ hex_forth_byte (Some h) (Some l) c d ds bs (Some xs) e f r q =
     let rest = r xs refl in
     ap hex (sym is) ∙ ap (λ x. hex_digit x ∷ hex_digit ((h * 16 + l) % 16) ∷ hex xs) high ∙ ap (λ x. hex_digit h ∷ hex_digit x ∷ hex xs) low
     ∙ ap (λ x. x ∷ hex_digit l ∷ hex xs) p.0 ∙ ap (λ x. c ∷ x ∷ hex xs) s.0 ∙ ap (λ x. c ∷ d ∷ x) rest
-hex_forth_byte (Some h) (Some l) c d ds bs None e f r q = absurd (none-some bs q)
-hex_forth_byte (Some h) None c d ds bs o e f r q = absurd (none-some bs q)
-hex_forth_byte None b c d ds bs o e f r q = absurd (none-some bs q)
+hex_forth_byte (Some h) (Some l) c d ds bs None e f r q = absurd (none_some bs q)
+hex_forth_byte (Some h) None c d ds bs o e f r q = absurd (none_some bs q)
+hex_forth_byte None b c d ds bs o e f r q = absurd (none_some bs q)
 
-hex-forth : (n : ℕ) (ds bs : List ℕ) → unhexed n ds ≡ Some bs → hex bs ≡ ds
-hex-forth zero [] bs e = let is : [] ≡ bs = cc in ap hex (sym is)
-hex-forth zero (c ∷ cs) bs e = absurd (none-some bs e)
-hex-forth (suc n) [] bs e = absurd (none-some bs e)
-hex-forth (suc n) (c ∷ []) bs e = absurd (none-some bs e)
-hex-forth (suc n) (c ∷ d ∷ ds) bs e = hex_forth_byte (digit_value c) (digit_value d) c d ds bs (unhexed n ds) refl refl (hex-forth n ds) e
+hex_forth : (n : ℕ) (ds bs : List ℕ) → unhexed n ds ≡ Some bs → hex bs ≡ ds
+hex_forth zero [] bs e = let is : [] ≡ bs = cc in ap hex (sym is)
+hex_forth zero (c ∷ cs) bs e = absurd (none_some bs e)
+hex_forth (suc n) [] bs e = absurd (none_some bs e)
+hex_forth (suc n) (c ∷ []) bs e = absurd (none_some bs e)
+hex_forth (suc n) (c ∷ d ∷ ds) bs e = hex_forth_byte (digit_value c) (digit_value d) c d ds bs (unhexed n ds) refl refl (hex_forth n ds) e
 
-pub reads-back : ReadsBack
-reads-back = record { back = hex-back; forth = hex-forth }
+pub reads_back : ReadsBack
+reads_back = record { back = hex_back; forth = hex_forth }

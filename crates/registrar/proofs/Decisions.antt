@@ -17,7 +17,7 @@ use Rattle.registrar.specs.declared.queue.Submission.{Submission}
 use Rattle.registrar.specs.declared.registrar.Registrar.{Registrar}
 use Rattle.registrar.specs.declared.journal.Head.{Head}
 use Rattle.registrar.specs.Deciding.{Waiting, verdict_on, rows_after, firsts_after}
-use Rattle.registrar.specs.Registry.{Registry, Settled, registry_sized, unless, waiting_at, waiting_from, queue_of, queued_at, oldest_beyond, none_waits, entered, decided_own, by_verdict, decide_oldest, decide}
+use Rattle.registrar.specs.Registry.{Registry, registry_sized, unless, waiting_at, waiting_from, queue_of, oldest_beyond, none_waits, entered, decided_own, by_verdict, decide_oldest, decide}
 use Rattle.registrar.specs.Calls.{registry_of, settled_as, waiting_with, by_stamp, head_of}
 
 -- a verdict that does not accept changes nothing
@@ -49,8 +49,8 @@ module _ {S R : Type 0} (k : Kind S) (g : Registry S R) where
       ap (λ (b : Bool). unless (refused_if (not b) WrongTables (refused_if (oldest_beyond k g (queue_of g)) NoSuchRecord (refused_if (none_waits k (queue_of g)) NoneWaiting (refused_if (leb (length g.heads) g.own.jobs) JournalFull (refused_if (leb 32 g.own.outcomes) OutcomesFull None))))) g (decide_oldest k (queue_of g) g)) z
       ∙ ap (λ (us : List (Waiting S R)). unless (refused_if (oldest_beyond k g us) NoSuchRecord (refused_if (none_waits k us) NoneWaiting (refused_if (leb (length g.heads) g.own.jobs) JournalFull (refused_if (leb 32 g.own.outcomes) OutcomesFull None)))) g (decide_oldest k us g)) e
 
-  pub decide-none : registry_sized g ≡ true → g.own.waiting ≡ 0 → settled_as (Err NoneWaiting) g ≡ decide k g
-  decide-none z w =
+  pub decide_none : registry_sized g ≡ true → g.own.waiting ≡ 0 → settled_as (Err NoneWaiting) g ≡ decide k g
+  decide_none z w =
       let n : min g.own.waiting 16 ≡ 0 = omega arith in
       sym (decide_by [] (ap (waiting_from g g.own.oldest) n) z)
 
@@ -78,8 +78,8 @@ module _ {S R : Type 0} (k : Kind S) (g : Registry S R) (q : Submission S) (entr
       ∙ ap (λ (m : Option (Submission S)). waiting_at g (g.own.oldest % 16) m ++ behind) there
       ∙ ap (λ (es : List (Entry S R)). waiting_with q es ∷ behind) (sym e)
 
-  pub decide-beyond : beyond g.own.records entries ≡ true → settled_as (Err NoSuchRecord) g ≡ decide k g
-  decide-beyond far = sym (decide_by k g _ oldest_first z ∙ simp far)
+  pub decide_beyond : beyond g.own.records entries ≡ true → settled_as (Err NoSuchRecord) g ≡ decide k g
+  decide_beyond far = sym (decide_by k g _ oldest_first z ∙ simp far)
 
   pub decide_full : beyond g.own.records entries ≡ false → length g.heads ≤ g.own.jobs → settled_as (Err JournalFull) g ≡ decide k g
   decide_full far f = sym (decide_by k g _ oldest_first z ∙ simp (far, le-leb _ _ f))
@@ -87,7 +87,7 @@ module _ {S R : Type 0} (k : Kind S) (g : Registry S R) (q : Submission S) (entr
   pub decide_crowded : beyond g.own.records entries ≡ false → g.own.jobs < length g.heads → 32 ≤ g.own.outcomes → settled_as (Err OutcomesFull) g ≡ decide k g
   decide_crowded far f c = sym (decide_by k g _ oldest_first z ∙ simp (far, lt-leb _ _ f, le-leb _ _ c))
 
-  pub decide-whole : beyond g.own.records entries ≡ false → g.own.jobs < length g.heads → g.own.outcomes < 32
+  pub decide_whole : beyond g.own.records entries ≡ false → g.own.jobs < length g.heads → g.own.outcomes < 32
       → {v : Verdict S} → v ≡ verdict_on k g.rows (waiting_with q entries)
       → {own : Registrar} → {n : ℕ} → n ≡ by_stamp v 0 (λ _. 1) → own ≡ decided_own g.own n
       → {rows : List (Row S R)} → rows ≡ by_stamp v g.rows (λ s. rows_after k.order s entries g.rows)
@@ -96,7 +96,7 @@ module _ {S R : Type 0} (k : Kind S) (g : Registry S R) (q : Submission S) (entr
       → {lines : List (Entry S R)} → lines ≡ by_stamp v g.lines (λ s. laid_from (16 * g.own.jobs) entries g.lines)
       → {outcomes : List (Outcome S)} → outcomes ≡ set g.outcomes g.own.outcomes (record { ticket = q.ticket; verdict = v })
       → settled_as (Ok (record { ticket = q.ticket; verdict = v })) (registry_of own rows firsts g.opening g.queue g.queued outcomes heads lines) ≡ decide k g
-  decide-whole far f c {v} ve ne oe re fe he le ue =
+  decide_whole far f c {v} ve ne oe re fe he le ue =
       (λ i. settled_as (Ok (record { ticket = q.ticket; verdict = v })) (registry_of ((oe ∙ ap (decided_own g.own) ne) i) (re i) (fe i) g.opening g.queue g.queued (ue i) (he i) (le i)))
       ∙ ap (settled_as (Ok (record { ticket = q.ticket; verdict = v }))) (sym (by_verdict_is k g (waiting_with q entries) v))
       ∙ ap (λ (u : Verdict S). settled_as (Ok (record { ticket = q.ticket; verdict = u })) (by_verdict k u g (waiting_with q entries))) ve

@@ -25,13 +25,13 @@ module _ {S : Type 0} (o : Order S) where
       rw suc-add (rw (p.0, ahead_more s js i d (le_of_suc-le-suc l) n p.1))
 
   -- no head so far is after the stamp, and the next one is
-  pub ahead-ends : (s : S) (js : List (Head S)) (n i : ℕ) (d : Head S) → i < n → i < length js → o.before s (get_or js i d).stamp ≡ true → ahead o s (take i js) ≡ i → ahead o s (take n js) ≡ i
-  ahead-ends s [] n i d m l y e = absurd (not-suc-le-zero l)
-  ahead-ends s (j ∷ js) zero i d m l y e = absurd (not-suc-le-zero m)
-  ahead-ends s (j ∷ js) (suc n) zero d m l y e = rw y
-  ahead-ends s (j ∷ js) (suc n) (suc i) d m l y e =
+  pub ahead_ends : (s : S) (js : List (Head S)) (n i : ℕ) (d : Head S) → i < n → i < length js → o.before s (get_or js i d).stamp ≡ true → ahead o s (take i js) ≡ i → ahead o s (take n js) ≡ i
+  ahead_ends s [] n i d m l y e = absurd (not-suc-le-zero l)
+  ahead_ends s (j ∷ js) zero i d m l y e = absurd (not-suc-le-zero m)
+  ahead_ends s (j ∷ js) (suc n) zero d m l y e = rw y
+  ahead_ends s (j ∷ js) (suc n) (suc i) d m l y e =
       let p = ahead_parts (o.before s j.stamp) (ahead o s (take i js)) i e in
-      rw (p.0, ahead-ends s js n i d (le_of_suc-le-suc m) (le_of_suc-le-suc l) y p.1)
+      rw (p.0, ahead_ends s js n i d (le_of_suc-le-suc m) (le_of_suc-le-suc l) y p.1)
 
   pub entered_at : (h : Head S) (js : List (Head S)) → insert js (ahead o h.stamp js) h ≡ entered o h js
   entered_at h [] = refl

@@ -1,5 +1,5 @@
 -- The registrar with its tables, and what found, submit, decide, publish, settle and waive do.
-use Rattle.std.specs.Prelude.{ℕ, zero, suc, ◌+◌, ◌-◌, ◌*◌, ◌%◌, min, Bool, true, false, cond, not, ◌&&◌, ◌||◌, List, [], ◌∷◌, ◌++◌, map, length, take, drop, replicate, Some, None, Ok, Err, Option, Result, ◌==◌, nat_le, slice_set}
+use Rattle.std.specs.Prelude.{ℕ, zero, suc, ◌+◌, ◌-◌, ◌*◌, ◌%◌, min, Bool, true, false, cond, not, ◌&&◌, List, [], ◌∷◌, ◌++◌, length, take, drop, replicate, Some, None, Ok, Err, Option, Result, ◌==◌, nat_le, slice_set}
 use Rattle.std.specs.List.{slice_get}
 use Rattle.kinds.specs.Stamps.{Order, Kind}
 use Rattle.model.specs.declared.entry.Entry.{Entry}
@@ -8,7 +8,6 @@ use Rattle.model.specs.declared.image.ImageRow.{ImageRow}
 use Rattle.model.specs.declared.verdict.Verdict.{Verdict}
 use Rattle.model.specs.declared.verdict.Verdict.TheVariants.{Accepted, Overtaken, Gone, NoPlace}
 use Rattle.model.specs.declared.verdict.Outcome.{Outcome}
-use Rattle.station.specs.declared.job.Job.{Job}
 use Rattle.registrar.specs.declared.queue.Submission.{Submission}
 use Rattle.registrar.specs.declared.registrar.Registrar.{Registrar}
 use Rattle.registrar.specs.declared.journal.Head.{Head}
@@ -18,7 +17,7 @@ use Rattle.model.specs.Refusals.{refused_if}
 use Rattle.model.specs.Tables.{lawful_size, sized, laid, laid_from}
 use Rattle.model.specs.Rows.{founded_row, shown_row}
 use Rattle.model.specs.Sheets.{beyond}
-use Rattle.station.specs.Station.{Image, image_sized, Station, Work, work_of, is_shut}
+use Rattle.station.specs.Station.{Image, image_sized, Station, work_of, is_shut}
 use Rattle.registrar.specs.Deciding.{Waiting, verdict_on, rows_after, firsts_after}
 
 -- the registrar's numbers and its tables: rows, first writes and opening values by record; 16 submissions with

@@ -2,7 +2,7 @@
 ghost use Rattle.std.specs.Prelude.{◌≡◌, ◌*◌, ◌<◌, ◌≤◌, length, take};
 ghost use Rattle.model.specs.Tables.{laid, laid_from};
 ghost use Rattle.registrar.specs.Deciding.{rows_after, firsts_after};
-ghost use Rattle.registrar.specs.Registry.{entered, decide as decided-by};
+ghost use Rattle.registrar.specs.Registry.{entered, decide as decided_by};
 ghost use Rattle.registrar.specs.Calls.{registry_left, registry_in, settled_as, by_stamp, head_of};
 
 use crate::bundle::Tables;
@@ -69,7 +69,7 @@ impl Registrar {
         &mut self,
         tables: Tables<'_, S, R>,
     ) -> Result<Outcome<S>, Refusal>
-        ensures { settled_as result (registry_left self.new tables.exit) ≡ decided-by S.Stamp.kind (registry_in self.old tables.entry) }
+        ensures { settled_as result (registry_left self.new tables.exit) ≡ decided_by S.Stamp.kind (registry_in self.old tables.entry) }
     {
         if !tables.fit(self.records) {
             return Err(Refusal::WrongTables);

@@ -1,7 +1,7 @@
 // Founding a register.
 ghost use Rattle.std.specs.Prelude.{◌≡◌, length};
 ghost use Rattle.model.specs.Rows.{founded_row};
-ghost use Rattle.registrar.specs.Registry.{founded_rows, found as found-by};
+ghost use Rattle.registrar.specs.Registry.{founded_rows, found as found_by};
 ghost use Rattle.registrar.specs.Calls.{registry_left, registry_in, no_numbers, founded_as};
 
 use crate::bundle::Tables;
@@ -45,7 +45,7 @@ impl Registrar {
         values: &[R],
         tables: Tables<'_, S, R>,
     ) -> Result<Registrar, Refusal>
-        ensures { founded_as result (registry_left no_numbers tables.exit) ≡ found-by S.Stamp.kind.order values.now (registry_in no_numbers tables.entry) }
+        ensures { founded_as result (registry_left no_numbers tables.exit) ≡ found_by S.Stamp.kind.order values.now (registry_in no_numbers tables.entry) }
     {
         if !tables.fit(values.len()) {
             return Err(Refusal::WrongTables);

@@ -1,7 +1,7 @@
 // Publishing an image.
 ghost use Rattle.std.specs.Prelude.{◌≡◌, true, ◌&&◌, length, ◌==◌, nat_le};
 ghost use Rattle.model.specs.Rows.{shown_row};
-ghost use Rattle.registrar.specs.Registry.{shown_rows, publish as published-by};
+ghost use Rattle.registrar.specs.Registry.{shown_rows, publish as published_by};
 ghost use Rattle.registrar.specs.Calls.{registry_left, registry_in, image_with, published_as};
 
 use crate::bundle::Tables;
@@ -69,7 +69,7 @@ impl Registrar {
         rows: &mut [ImageRow<S, R>],
         outcomes: &mut [Outcome<S>],
     ) -> Result<u32, Refusal>
-        ensures { published_as result (registry_left self.new tables.exit) (image_with head.new rows.new outcomes.new) ≡ published-by (registry_in self.old tables.entry) (image_with head.old rows.old outcomes.old) }
+        ensures { published_as result (registry_left self.new tables.exit) (image_with head.new rows.new outcomes.new) ≡ published_by (registry_in self.old tables.entry) (image_with head.old rows.old outcomes.old) }
     {
         if !tables.fit(self.records) {
             return Err(Refusal::WrongTables);

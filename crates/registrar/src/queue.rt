@@ -1,6 +1,6 @@
 // The queue of submissions.
 ghost use Rattle.std.specs.Prelude.{◌≡◌, ◌+◌, ◌%◌, ◌<◌, ◌≤◌};
-ghost use Rattle.model.specs.Sheets.{beyond as beyond-any};
+ghost use Rattle.model.specs.Sheets.{beyond as beyond_any};
 
 use model::entry::Entry;
 
@@ -15,7 +15,7 @@ pub struct Submission<S> {
 
 // Whether an entry names a record that the register has not.
 pub(crate) fn beyond<S: Copy, R: Copy>(entries: &[Entry<S, R>], records: usize) -> bool
-    ensures { result ≡ beyond-any records entries.now }
+    ensures { result ≡ beyond_any records entries.now }
 {
     for entry in entries {
         if entry.number >= records {

@@ -1,7 +1,7 @@
 // Submitting a job.
 ghost use Rattle.std.specs.Prelude.{◌≡◌};
 ghost use Rattle.station.specs.Station.{is_shut};
-ghost use Rattle.registrar.specs.Registry.{submit as submitted-by};
+ghost use Rattle.registrar.specs.Registry.{submit as submitted_by};
 ghost use Rattle.registrar.specs.Calls.{registry_left, registry_in, station_of, handed_as, handed_in};
 
 use crate::bundle::Tables;
@@ -33,7 +33,7 @@ impl Registrar {
         job: Job<S>,
         sheet: &[Entry<S, R>],
     ) -> Result<Ticket, (Refusal, Job<S>)>
-        ensures { handed_as result (registry_left self.new tables.exit) ≡ handed_in job (submitted-by (registry_in self.old tables.entry) (station_of job sheet.now)) }
+        ensures { handed_as result (registry_left self.new tables.exit) ≡ handed_in job (submitted_by (registry_in self.old tables.entry) (station_of job sheet.now)) }
     {
         if !tables.fit(self.records) {
             return Err((Refusal::WrongTables, job));

@@ -1,6 +1,6 @@
 // Tickets.
 ghost use Rattle.std.specs.Prelude.{◌≡◌};
-ghost use Rattle.registrar.specs.Registry.{verdict_in, settle as settled-by};
+ghost use Rattle.registrar.specs.Registry.{verdict_in, settle as settled_by};
 ghost use Rattle.registrar.specs.Calls.{image_heard, or_ticket};
 
 use crate::places::front;
@@ -47,7 +47,7 @@ impl Ticket {
         self,
         image: Image<'_, S, R>,
     ) -> Result<Verdict<S>, (Refusal, Ticket)>
-        ensures { result ≡ or_ticket self (settled-by self.number (image_heard image.entry)) }
+        ensures { result ≡ or_ticket self (settled_by self.number (image_heard image.entry)) }
     {
         if !fits(image.records, image.rows.len(), image.outcomes.len()) {
             return Err((Refusal::WrongTables, self));

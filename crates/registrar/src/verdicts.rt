@@ -2,7 +2,7 @@
 ghost use Rattle.std.specs.Prelude.{◌≡◌, ◌&&◌, [], ◌∷◌, if◌then◌else◌};
 ghost use Rattle.std.specs.List.{slice_get};
 ghost use Rattle.station.specs.Station.{lifted};
-ghost use Rattle.registrar.specs.Deciding.{noted_elsewhere, overtaken as overtaken-by, follows_in, following as following-in, bounded_by, upper_bound, last_use, lower_bound, verdict_on};
+ghost use Rattle.registrar.specs.Deciding.{noted_elsewhere, overtaken as overtaken_by, follows_in, following as following_in, bounded_by, upper_bound, last_use, lower_bound, verdict_on};
 ghost use Rattle.registrar.specs.Calls.{waiting_with};
 
 use crate::queue::Submission;
@@ -33,7 +33,7 @@ fn overtakes<S: Stamp, R: Copy>(rows: &[Row<S, R>], entry: Entry<S, R>) -> bool
 
 // Whether a record that the job puts has been written since its station noted it.
 fn overtaken<S: Stamp, R: Copy>(rows: &[Row<S, R>], entries: &[Entry<S, R>]) -> bool
-    ensures { result ≡ overtaken-by S.Stamp.kind.order rows.now entries.now }
+    ensures { result ≡ overtaken_by S.Stamp.kind.order rows.now entries.now }
 {
     for entry in entries {
         if overtakes(rows, *entry) {
@@ -78,7 +78,7 @@ fn among_three<S: Stamp>(noted: S, next: S, three: S, two: S, one: S) -> Option<
 
 // The version of a row that follows the noted stamp, if any; none where the stamp is gone.
 fn following<S: Stamp, R: Copy>(noted: S, row: Option<Row<S, R>>) -> Option<Option<S>>
-    ensures { result ≡ following-in S.Stamp.kind.order noted row }
+    ensures { result ≡ following_in S.Stamp.kind.order noted row }
 {
     let Some(row) = row else {
         return None;
@@ -101,7 +101,7 @@ fn narrow<S: Stamp, R: Copy>(
     entry: Entry<S, R>,
     upper: Option<S>,
 ) -> Option<Option<S>>
-    ensures { result ≡ bounded_by S.Stamp.kind.order entry.opened (following-in S.Stamp.kind.order entry.noted (slice_get rows.now entry.number)) upper }
+    ensures { result ≡ bounded_by S.Stamp.kind.order entry.opened (following_in S.Stamp.kind.order entry.noted (slice_get rows.now entry.number)) upper }
 {
     if !entry.opened {
         return Some(upper);

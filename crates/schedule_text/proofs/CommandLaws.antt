@@ -71,11 +71,11 @@ first_word (w ∷ ws) d h = ap (λ l. command_of (w.now ∷ texts l)) (take_rest
 abbrev chosen : List Lent → Bool → Bool → Bool → Result Command Reason
 chosen ws p f r = cond p (pick_of (texts (rest ws))) (cond f (form_of (texts (rest ws))) (cond r (read_of (texts (rest ws))) (Err NoCommand)))
 
-pub first-pick : (ws : List Lent) (d : Lent) → (length ws ≡ 0 → ⊥) → true ≡ named ws d "pick" → pick_of (texts (rest ws)) ≡ command_of (texts ws)
-first-pick ws d h p = ap (λ t. chosen ws t (named ws d "form") (named ws d "read")) p ∙ first_word ws d h
+pub first_pick : (ws : List Lent) (d : Lent) → (length ws ≡ 0 → ⊥) → true ≡ named ws d "pick" → pick_of (texts (rest ws)) ≡ command_of (texts ws)
+first_pick ws d h p = ap (λ t. chosen ws t (named ws d "form") (named ws d "read")) p ∙ first_word ws d h
 
-pub first-form : (ws : List Lent) (d : Lent) → (length ws ≡ 0 → ⊥) → false ≡ named ws d "pick" → true ≡ named ws d "form" → form_of (texts (rest ws)) ≡ command_of (texts ws)
-first-form ws d h p f =
+pub first_form : (ws : List Lent) (d : Lent) → (length ws ≡ 0 → ⊥) → false ≡ named ws d "pick" → true ≡ named ws d "form" → form_of (texts (rest ws)) ≡ command_of (texts ws)
+first_form ws d h p f =
     ap (λ t. chosen ws false t (named ws d "read")) f ∙ ap (λ t. chosen ws t (named ws d "form") (named ws d "read")) p ∙ first_word ws d h
 
 pub first_read : (ws : List Lent) (d : Lent) → (length ws ≡ 0 → ⊥) → false ≡ named ws d "pick" → false ≡ named ws d "form" → true ≡ named ws d "read" → read_of (texts (rest ws)) ≡ command_of (texts ws)

@@ -1,5 +1,5 @@
 -- The first line of an input, and lines that are passed over.
-use Rattle.std.proofs.Common.{◌≡◌, ℕ, ◌+◌, ◌-◌, ◌<◌, Bool, true, false, cond, eqb, List, [], ◌∷◌, ◌++◌, length, get_or, take, drop, Some, None, Option, sym, refl, ap, ◌∙◌, append_assoc, append-nil, arith, Bor}
+use Rattle.std.proofs.Common.{◌≡◌, ℕ, ◌-◌, ◌<◌, Bool, true, false, cond, eqb, List, [], ◌∷◌, ◌++◌, length, get_or, take, drop, Some, None, Option, sym, refl, ap, ◌∙◌, append_assoc, append-nil, arith, Bor}
 use Rattle.std.specs.Option.{option_map}
 use Rattle.std.proofs.lemmas.List.{drop_all, take_all}
 use Rattle.notation.specs.Cuts.{Cut, longer, cut_at}
@@ -14,11 +14,11 @@ pub record First (begun w : List ℕ) (p : Cut) : Type 0 where
   pub lines : lines_on begun w ≡ (begun ++ p.front) ∷ lines_on [] p.back
   pub shorter : length p.back < length w
 
-none-some : {X : Type 0} {A : Type 0} (x : X) → None ≡ Some x → A
-none-some x e = let z : ◌≡◌ {A = ℕ} 0 1 = cc in absurd (omega arith)
+none_some : {X : Type 0} {A : Type 0} (x : X) → None ≡ Some x → A
+none_some x e = let z : ◌≡◌ {A = ℕ} 0 1 = cc in absurd (omega arith)
 
 pub cut_line : (w begun : List ℕ) (p : Cut) → cut_at 10 w ≡ Some p → First begun w p
-cut_line [] begun p e = none-some p e
+cut_line [] begun p e = none_some p e
 cut_line (c ∷ cs) begun p e = by (eqb c 10) (cut_at 10 cs) refl refl (cut_line cs (begun ++ c ∷ [])) e
   where
     by : (t : Bool) (o : Option Cut) → eqb c 10 ≡ t → cut_at 10 cs ≡ o → ((r : Cut) → cut_at 10 cs ≡ Some r → First (begun ++ c ∷ []) cs r) → cond t (Some (record { front = []; back = cs })) (option_map (longer c) o) ≡ Some p → First begun (c ∷ cs) p
@@ -28,7 +28,7 @@ cut_line (c ∷ cs) begun p e = by (eqb c 10) (cut_at 10 cs) refl refl (cut_line
           lines = ap (λ b. cond b (begun ∷ lines_on [] cs) (lines_on (begun ++ c ∷ []) cs)) t ∙ ap (λ b. b ∷ lines_on [] cs) (sym (append-nil begun)) ∙ ap (λ (r : Cut). (begun ++ r.front) ∷ lines_on [] r.back) at;
           shorter = let l : length cs ≡ length p.back = ap (λ (r : Cut). length r.back) at in omega arith;
         }
-    by false None t is more q = none-some p q
+    by false None t is more q = none_some p q
     by false (Some r) t is more q =
         let at : longer c r ≡ p = cc in
         let f = more r is in
@@ -42,8 +42,8 @@ last_line [] begun e = ap (λ b. ended b []) (sym (append-nil begun))
 last_line (c ∷ cs) begun e = by (eqb c 10) (cut_at 10 cs) refl refl (last_line cs (begun ++ c ∷ [])) e
   where
     by : (t : Bool) (o : Option Cut) → eqb c 10 ≡ t → cut_at 10 cs ≡ o → (cut_at 10 cs ≡ None → lines_on (begun ++ c ∷ []) cs ≡ ended ((begun ++ c ∷ []) ++ cs) []) → cond t (Some (record { front = []; back = cs })) (option_map (longer c) o) ≡ None → lines_on begun (c ∷ cs) ≡ ended (begun ++ c ∷ cs) []
-    by true o t is more q = none-some _ (sym q)
-    by false (Some r) t is more q = none-some _ (sym q)
+    by true o t is more q = none_some _ (sym q)
+    by false (Some r) t is more q = none_some _ (sym q)
     by false None t is more q =
         ap (λ b. cond b (begun ∷ lines_on [] cs) (lines_on (begun ++ c ∷ []) cs)) t ∙ more is
         ∙ ap (λ b. ended b []) (append_assoc begun (c ∷ []) cs)

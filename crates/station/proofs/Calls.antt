@@ -30,8 +30,8 @@ module _ {S R : Type 0} where
       λ i. record { job = record { image = t.job.image; lower = t.job.lower; upper = t.job.upper; standing = t.job.standing; count = c i }; sheet = e i }
 
   -- a job put back shut, or at another image with its entries altered in place
-  shut-back : (t : Station S R) → put_back t (shut_down (work_of t)) ≡ station (shut t.job) t.sheet
-  shut-back t = λ i. station (shut (unaltered t i).job) (unaltered t i).sheet
+  shut_back : (t : Station S R) → put_back t (shut_down (work_of t)) ≡ station (shut t.job) t.sheet
+  shut_back t = λ i. station (shut (unaltered t i).job) (unaltered t i).sheet
 
   moved_back : (t : Station S R) (image : ℕ) (lower : S) (upper : Option S) (f : Entry S R → Entry S R) → put_back t (record { image = image; lower = lower; upper = upper; standing = t.job.standing; entries = map f (work_of t).entries }) ≡ station (moved_to image lower upper t.job) (laid (map f (work_of t).entries) t.sheet)
   moved_back t image lower upper f =
@@ -65,8 +65,8 @@ module _ {S R A : Type 0} (t : Station S R) where
   room_back None a b h = only_answers (Err NoRoom)
   room_back (Some s) a b h = h
 
-  place-back : (a : Acted S R A) (b : Answered S R A) → length t.sheet ≡ 16 → (t.job.count < 16 → b ≡ carried_out t a) → where_place t b ≡ carried_out t (unless (sheet_room (work_of t)) (work_of t) a)
-  place-back a b l h = by_count (leb 16 t.job.count) (leb 16 (length (work_of t).entries)) refl same
+  place_back : (a : Acted S R A) (b : Answered S R A) → length t.sheet ≡ 16 → (t.job.count < 16 → b ≡ carried_out t a) → where_place t b ≡ carried_out t (unless (sheet_room (work_of t)) (work_of t) a)
+  place_back a b l h = by_count (leb 16 t.job.count) (leb 16 (length (work_of t).entries)) refl same
     where
       same : leb 16 t.job.count ≡ leb 16 (length (work_of t).entries)
       same = simp length-take (grind (arith, nat_tests))
@@ -102,8 +102,8 @@ module _ {S R A : Type 0} (t : Station S R) where
   goes_on i x f row h = ap (with_row f) h ∙ admits i x f
 
 -- an admitted call has a sheet of 16 places
-admitted-sized : {S R : Type 0} (t : Station S R) (i : Image S R) (x : ℕ) (row : ImageRow S R) → Ok row ≡ admitted t i x → length t.sheet ≡ 16
-admitted-sized {S} {R} t i x row h =
+admitted_sized : {S R : Type 0} (t : Station S R) (i : Image S R) (x : ℕ) (row : ImageRow S R) → Ok row ≡ admitted t i x → length t.sheet ≡ 16
+admitted_sized {S} {R} t i x row h =
     eqb-true (length t.sheet) 16 (and_parts (image_sized i) (sized t.sheet 16) (fits (image_sized i && sized t.sheet 16) (row_unless (at_image (work_of t) i) (slice_get i.rows x)) h)).1
   where
     fits : (b : Bool) (a : Result (ImageRow S R) Refusal) → Ok row ≡ cond b a (Err WrongTables) → b ≡ true
@@ -115,11 +115,11 @@ module _ {S R : Type 0} (k : Kind S) (t : Station S R) (l : length t.sheet ≡ 1
   entries = (work_of t).entries
 
   -- look
-  look-by : (o : Option (ℕ × Entry S R)) → Told entries (find x entries) (λ v. put_on x v entries) o → look_at k t o x row ≡ carried_out t (look_found k (find x entries) (work_of t) x row)
-  look-by (Some p) h =
+  look_by : (o : Option (ℕ × Entry S R)) → Told entries (find x entries) (λ v. put_on x v entries) o → look_at k t o x row ≡ carried_out t (look_found k (find x entries) (work_of t) x row)
+  look_by (Some p) h =
       only_answers t (Ok (own_value p.1)) ∙ ap (λ (o : Option (Entry S R)). carried_out t (look_found k o (work_of t) x row)) (sym h.1)
-  look-by None h =
-      place-back t _ _ l (λ c. room_back t _ _ _ (ap (answers t (Ok row.value)) (sym (grown_back t _ (looked x row) (omega arith)))))
+  look_by None h =
+      place_back t _ _ l (λ c. room_back t _ _ _ (ap (answers t (Ok row.value)) (sym (grown_back t _ (looked x row) (omega arith)))))
       ∙ ap (λ (o : Option (Entry S R)). carried_out t (look_found k o (work_of t) x row)) (sym h)
 
   -- put
@@ -127,19 +127,19 @@ module _ {S R : Type 0} (k : Kind S) (t : Station S R) (l : length t.sheet ≡ 1
   again_by v i e true p h q = rw (← p) (ap (answers t (Ok tt)) (sym (put_back_on t t.job.lower _ i (with_value v e) h q)))
   again_by v i e false p h q = rw (← p) (room_back t _ _ _ (ap (answers t (Ok tt)) (sym (put_back_on t _ _ i (with_value v e) h q))))
 
-  put-by : (v : R) (o : Option (ℕ × Entry S R)) → Told entries (find x entries) (λ v. put_on x v entries) o → put_at k t o x row v ≡ carried_out t (put_found k (find x entries) (work_of t) x v row)
-  put-by v (Some p) h =
+  put_by : (v : R) (o : Option (ℕ × Entry S R)) → Told entries (find x entries) (λ v. put_on x v entries) o → put_at k t o x row v ≡ carried_out t (put_found k (find x entries) (work_of t) x v row)
+  put_by v (Some p) h =
       again_by v p.0 p.1 p.1.put refl h.0 (h.2 v) ∙ ap (λ (o : Option (Entry S R)). carried_out t (put_found k o (work_of t) x v row)) (sym h.1)
-  put-by v None h =
-      place-back t _ _ l (λ c. room_back t _ _ _ (ap (answers t (Ok tt)) (sym (grown_back t _ (put_unseen x row v) (omega arith)))))
+  put_by v None h =
+      place_back t _ _ l (λ c. room_back t _ _ _ (ap (answers t (Ok tt)) (sym (grown_back t _ (put_unseen x row v) (omega arith)))))
       ∙ ap (λ (o : Option (Entry S R)). carried_out t (put_found k o (work_of t) x v row)) (sym h)
 
 module _ {S R : Type 0} (k : Kind S) (t : Station S R) (i : Image S R) (x : ℕ) (row : ImageRow S R) (h : Ok row ≡ admitted t i x) where
   pub looks : look_at k t (found_at x (take t.job.count t.sheet)) x row ≡ look_job k t i x
-  looks = look-by k t (admitted-sized t i x row h) x row (found_at x (work_of t).entries) (told x (work_of t).entries) ∙ goes_on t i x (look_found k (find x (work_of t).entries) (work_of t) x) row h
+  looks = look_by k t (admitted_sized t i x row h) x row (found_at x (work_of t).entries) (told x (work_of t).entries) ∙ goes_on t i x (look_found k (find x (work_of t).entries) (work_of t) x) row h
 
   pub puts : (v : R) → put_at k t (found_at x (take t.job.count t.sheet)) x row v ≡ put_job k t i x v
-  puts v = put-by k t (admitted-sized t i x row h) x row v (found_at x (work_of t).entries) (told x (work_of t).entries) ∙ goes_on t i x (put_found k (find x (work_of t).entries) (work_of t) x v) row h
+  puts v = put_by k t (admitted_sized t i x row h) x row v (found_at x (work_of t).entries) (told x (work_of t).entries) ∙ goes_on t i x (put_found k (find x (work_of t).entries) (work_of t) x v) row h
 
 -- tune
 module _ {S R : Type 0} (k : Kind S) (t : Station S R) (i : Image S R) where
@@ -160,8 +160,8 @@ module _ {S R : Type 0} (k : Kind S) (t : Station S R) (i : Image S R) where
       by_size true None e = refl
 
   tune_back : (b : Bool) (p : Option S) → tune_by k t (bounds_if b p (tune_lower k (work_of t) i, tune_upper k (work_of t) i)) i ≡ carried_out t (tuned k b p (work_of t) i)
-  tune_back true p = ap (answers t (Ok Shut)) (sym (shut-back t))
-  tune_back false None = ap (answers t (Ok Shut)) (sym (shut-back t))
+  tune_back true p = ap (answers t (Ok Shut)) (sym (shut_back t))
+  tune_back false None = ap (answers t (Ok Shut)) (sym (shut_back t))
   tune_back false (Some s) = ap (answers t (Ok Live)) (sym (moved_back t i.number (tune_lower k (work_of t) i) (tune_upper k (work_of t) i) (closed_by (first_write i))))
 
   pub tunes : Ok tt ≡ admitted_next k t i → tune_at k t i ≡ tune_job k t i

@@ -1,6 +1,6 @@
 // The checks that calls share.
 ghost use Rattle.std.specs.Prelude.{◌≡◌, nat_le};
-ghost use Rattle.station.specs.Heard.{heard, station as at-station, admitted, roomed};
+ghost use Rattle.station.specs.Heard.{heard, station as at_station, admitted, roomed};
 
 use crate::job::{Job, Standing};
 use crate::sheet::{PLACES, fit};
@@ -18,7 +18,7 @@ impl<S: Stamp> Job<S> {
         image: Image<'_, S, R>,
         number: usize,
     ) -> Result<ImageRow<S, R>, Refusal>
-        ensures { result ≡ admitted (at-station self.now sheet.now) (heard image.entry) number }
+        ensures { result ≡ admitted (at_station self.now sheet.now) (heard image.entry) number }
     {
         if !fit(image, sheet) {
             return Err(Refusal::WrongTables);

@@ -1,8 +1,8 @@
 // Looking at a record.
 ghost use Rattle.std.specs.Prelude.{◌≡◌, take};
-ghost use Rattle.model.specs.Sheets.{looked as noted-look};
+ghost use Rattle.model.specs.Sheets.{looked as noted_look};
 ghost use Rattle.station.specs.Station.{look_job};
-ghost use Rattle.station.specs.Heard.{heard, station as at-station, answered, found_at};
+ghost use Rattle.station.specs.Heard.{heard, station as at_station, answered, found_at};
 ghost use Rattle.station.specs.Places.{look_at, look_new_at};
 
 use crate::job::Job;
@@ -16,7 +16,7 @@ use model::tables::store;
 
 // The entry of a look: seen and open, with the row's write stamp.
 fn looked<S: Copy, R: Copy>(number: usize, row: ImageRow<S, R>) -> Entry<S, R>
-    ensures { result ≡ noted-look number row }
+    ensures { result ≡ noted_look number row }
 {
     Entry {
         number,
@@ -37,7 +37,7 @@ impl<S: Stamp> Job<S> {
         number: usize,
         row: ImageRow<S, R>,
     ) -> Result<R, Refusal>
-        ensures { answered result self.new sheet.new ≡ look_new_at S.Stamp.kind (at-station self.old sheet.old) number row }
+        ensures { answered result self.new sheet.new ≡ look_new_at S.Stamp.kind (at_station self.old sheet.old) number row }
     {
         if self.is_full() {
             return Err(Refusal::SheetFull);
@@ -56,7 +56,7 @@ impl<S: Stamp> Job<S> {
         number: usize,
         row: ImageRow<S, R>,
     ) -> Result<R, Refusal>
-        ensures { answered result self.new sheet.new ≡ look_at S.Stamp.kind (at-station self.old sheet.old) (found_at number (take self.old.count sheet.old)) number row }
+        ensures { answered result self.new sheet.new ≡ look_at S.Stamp.kind (at_station self.old sheet.old) (found_at number (take self.old.count sheet.old)) number row }
     {
         match find(entries(sheet, self.count), number) {
             Some((_, entry)) => Ok(own(entry)),
@@ -72,7 +72,7 @@ impl<S: Stamp> Job<S> {
         image: Image<'_, S, R>,
         number: usize,
     ) -> Result<R, Refusal>
-        ensures { answered result self.new sheet.new ≡ look_job S.Stamp.kind (at-station self.old sheet.old) (heard image.entry) number }
+        ensures { answered result self.new sheet.new ≡ look_job S.Stamp.kind (at_station self.old sheet.old) (heard image.entry) number }
     {
         let row = self.admit(sheet, image, number)?;
         self.look_at(sheet, number, row)

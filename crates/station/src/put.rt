@@ -2,7 +2,7 @@
 ghost use Rattle.std.specs.Prelude.{◌≡◌, take};
 ghost use Rattle.model.specs.Sheets.{put_unseen, with_value};
 ghost use Rattle.station.specs.Station.{put_job};
-ghost use Rattle.station.specs.Heard.{heard, station as at-station, answered, found_at, put_bound, roomed};
+ghost use Rattle.station.specs.Heard.{heard, station as at_station, answered, found_at, put_bound, roomed};
 ghost use Rattle.station.specs.Places.{put_at, put_again_at, put_new_at};
 
 use crate::job::Job;
@@ -56,7 +56,7 @@ impl<S: Stamp> Job<S> {
         row: ImageRow<S, R>,
         value: R,
     ) -> Result<(), Refusal>
-        ensures { answered result self.new sheet.new ≡ put_new_at S.Stamp.kind (at-station self.old sheet.old) number row value }
+        ensures { answered result self.new sheet.new ≡ put_new_at S.Stamp.kind (at_station self.old sheet.old) number row value }
     {
         if self.is_full() {
             return Err(Refusal::SheetFull);
@@ -77,7 +77,7 @@ impl<S: Stamp> Job<S> {
         row: ImageRow<S, R>,
         value: R,
     ) -> Result<(), Refusal>
-        ensures { answered result self.new sheet.new ≡ put_again_at S.Stamp.kind (at-station self.old sheet.old) place entry row value }
+        ensures { answered result self.new sheet.new ≡ put_again_at S.Stamp.kind (at_station self.old sheet.old) place entry row value }
     {
         if !entry.put {
             self.lower = self.put_lower(row)?;
@@ -94,7 +94,7 @@ impl<S: Stamp> Job<S> {
         row: ImageRow<S, R>,
         value: R,
     ) -> Result<(), Refusal>
-        ensures { answered result self.new sheet.new ≡ put_at S.Stamp.kind (at-station self.old sheet.old) (found_at number (take self.old.count sheet.old)) number row value }
+        ensures { answered result self.new sheet.new ≡ put_at S.Stamp.kind (at_station self.old sheet.old) (found_at number (take self.old.count sheet.old)) number row value }
     {
         match find(entries(sheet, self.count), number) {
             Some((place, entry)) => self.put_again(sheet, place, entry, row, value),
@@ -111,7 +111,7 @@ impl<S: Stamp> Job<S> {
         number: usize,
         value: R,
     ) -> Result<(), Refusal>
-        ensures { answered result self.new sheet.new ≡ put_job S.Stamp.kind (at-station self.old sheet.old) (heard image.entry) number value }
+        ensures { answered result self.new sheet.new ≡ put_job S.Stamp.kind (at_station self.old sheet.old) (heard image.entry) number value }
     {
         let row = self.admit(sheet, image, number)?;
         self.put_at(sheet, number, row, value)

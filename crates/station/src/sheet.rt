@@ -1,8 +1,8 @@
 // The tables that are handed to a call: their sizes, and the entries of a sheet.
 ghost use Rattle.std.specs.Prelude.{◌≡◌, not, ◌&&◌, map, take, is_some, ◌==◌, nat_lt};
-ghost use Rattle.model.specs.Sheets.{own_value, beyond as some-beyond};
-ghost use Rattle.model.specs.Tables.{laid, lawful_size, sized as sized-to};
-ghost use Rattle.station.specs.Station.{image_sized, struck as some-struck, closed_by};
+ghost use Rattle.model.specs.Sheets.{own_value, beyond as some_beyond};
+ghost use Rattle.model.specs.Tables.{laid, lawful_size, sized as sized_to};
+ghost use Rattle.station.specs.Station.{image_sized, struck as some_struck, closed_by};
 ghost use Rattle.station.specs.Heard.{heard, firsts, found_at};
 
 use crate::bounds::first_write;
@@ -31,7 +31,7 @@ pub fn sized<S: Copy, R: Copy>(image: Image<'_, S, R>) -> bool
 
 // Whether the tables of a call, an image's and a sheet, have their sizes.
 pub fn fit<S: Copy, R: Copy>(image: Image<'_, S, R>, sheet: &[Entry<S, R>]) -> bool
-    ensures { result ≡ (image_sized (heard image.entry) && sized-to sheet.now 16) }
+    ensures { result ≡ (image_sized (heard image.entry) && sized_to sheet.now 16) }
 {
     sized(image) && sheet.len() == PLACES
 }
@@ -85,7 +85,7 @@ fn lacks<S: Copy, R: Copy>(entry: Entry<S, R>, records: usize) -> bool
 
 // Whether some entry is of a record that a register of that many records lacks.
 pub fn beyond<S: Copy, R: Copy>(entries: &[Entry<S, R>], records: usize) -> bool
-    ensures { result ≡ some-beyond records entries.now }
+    ensures { result ≡ some_beyond records entries.now }
 {
     for e in entries {
         if lacks(*e, records) {
@@ -104,7 +104,7 @@ fn hit<S: Copy, R: Copy>(entry: Entry<S, R>, rows: &[ImageRow<S, R>]) -> bool
 
 // Whether some put entry is of a record that has a first write.
 pub fn struck<S: Copy, R: Copy>(entries: &[Entry<S, R>], rows: &[ImageRow<S, R>]) -> bool
-    ensures { result ≡ some-struck (firsts rows.now) entries.now }
+    ensures { result ≡ some_struck (firsts rows.now) entries.now }
 {
     for e in entries {
         if hit(*e, rows) {

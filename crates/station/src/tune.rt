@@ -1,7 +1,7 @@
 // Tuning a job to the next image.
 ghost use Rattle.std.specs.Prelude.{◌≡◌, ◌+◌, Ok, ◌==◌};
 ghost use Rattle.station.specs.Station.{tune_job};
-ghost use Rattle.station.specs.Heard.{heard, station as at-station, answered, admitted_next};
+ghost use Rattle.station.specs.Heard.{heard, station as at_station, answered, admitted_next};
 ghost use Rattle.station.specs.Places.{bounds_at, tune_at};
 
 use crate::bounds::{lower_by, upper_by};
@@ -26,7 +26,7 @@ impl<S: Stamp> Job<S> {
         sheet: &[Entry<S, R>],
         image: Image<'_, S, R>,
     ) -> Result<(), Refusal>
-        ensures { result ≡ admitted_next S.Stamp.kind (at-station self.now sheet.now) (heard image.entry) }
+        ensures { result ≡ admitted_next S.Stamp.kind (at_station self.now sheet.now) (heard image.entry) }
     {
         if !fit(image, sheet) {
             return Err(Refusal::WrongTables);
@@ -65,7 +65,7 @@ impl<S: Stamp> Job<S> {
 
     // Moves the job to an image and closes its entries by the rows, or shuts it.
     fn tune_at<R: Copy>(&mut self, sheet: &mut [Entry<S, R>], image: Image<'_, S, R>) -> Standing
-        ensures { answered (Ok result) self.new sheet.new ≡ tune_at S.Stamp.kind (at-station self.old sheet.old) (heard image.entry) }
+        ensures { answered (Ok result) self.new sheet.new ≡ tune_at S.Stamp.kind (at_station self.old sheet.old) (heard image.entry) }
     {
         let Some((lower, upper)) = self.narrowed(entries(sheet, self.count), image.rows) else {
             self.standing = Standing::Shut;
@@ -86,7 +86,7 @@ impl<S: Stamp> Job<S> {
         sheet: &mut [Entry<S, R>],
         image: Image<'_, S, R>,
     ) -> Result<Standing, Refusal>
-        ensures { answered result self.new sheet.new ≡ tune_job S.Stamp.kind (at-station self.old sheet.old) (heard image.entry) }
+        ensures { answered result self.new sheet.new ≡ tune_job S.Stamp.kind (at_station self.old sheet.old) (heard image.entry) }
     {
         self.admit_next(sheet, image)?;
         Ok(self.tune_at(sheet, image))

@@ -1,8 +1,5 @@
-use Rattle.std.proofs.Common.{◌≡◌, ◌+◌, ◌-◌, ◌*◌, true, false, ◌++◌, length, take, drop, is_some, Ok, Err, sym, refl, ap, ◌∙◌, arith}
-use Rattle.std.proofs.lemmas.List.{at_drop_all, length-set}
-use Rattle.std.proofs.lemmas.Result.{err_from_is_err_and}
-use Rattle.archive.proofs.Counting.{stride, met, refused}
-use Rattle.archive.proofs.Steps.{holds-found, holds_passes, below_fails, below_passes, rest_holds, beyond_more, numbers_more, noted_more, blocks_more}
+use Rattle.std.proofs.Common.{true, false, is_some, sym, ap, ◌∙◌, arith}
+use Rattle.archive.proofs.Steps.{noted_more}
 use Rattle.archive.proofs.blocks.stamps_noted.Goals as goal
 
 pub returns-then-is_none : goal.returns-then-is_none

@@ -1,4 +1,4 @@
-use Rattle.std.proofs.Common.{◌≡◌, ℕ, ◌<◌, IfOk, Ok, Err, Result, sym, refl, ◌∙◌, arith}
+use Rattle.std.proofs.Common.{◌≡◌, ℕ, IfOk, Ok, Err, Result, sym, refl, ◌∙◌, arith}
 use Rattle.kinds.specs.Bytes.{Bytes}
 use Rattle.archive.specs.declared.fault.Fault.{Fault}
 use Rattle.archive.proofs.OneForm.{one_form}

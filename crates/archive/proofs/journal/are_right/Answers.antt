@@ -1,6 +1,6 @@
-use Rattle.std.proofs.Common.{◌≡◌, true, false, sym, ap, ◌∙◌, arith, rules}
+use Rattle.std.proofs.Common.{◌≡◌, true, false, sym, ◌∙◌, arith, rules}
 use Rattle.std.proofs.lemmas.List.{at_drop_all}
-use Rattle.archive.specs.Writing.{head_right, heads_right}
+use Rattle.archive.specs.Writing.{heads_right}
 use Rattle.archive.proofs.Heads.{right_more}
 use Rattle.archive.proofs.journal.are_right.Goals as goal
 

@@ -1,9 +1,7 @@
-use Rattle.std.proofs.Common.{◌≡◌, ◌+◌, ◌-◌, ◌*◌, true, false, ◌++◌, length, take, drop, Ok, Err, sym, refl, ap, ◌∙◌, arith}
-use Rattle.std.proofs.lemmas.List.{at_drop_all, length-set}
-use Rattle.std.proofs.lemmas.Result.{err_from_is_err_and}
-use Rattle.archive.specs.Names.{holds, all_below, apart, beyond, numbers}
-use Rattle.archive.proofs.Counting.{stride, met, refused}
-use Rattle.archive.proofs.Steps.{holds-found, holds_passes, below_fails, below_passes, rest_holds, beyond_more, numbers_more, noted_more, blocks_more}
+use Rattle.std.proofs.Common.{true, false, sym, ◌∙◌, arith}
+use Rattle.std.proofs.lemmas.List.{at_drop_all}
+use Rattle.archive.specs.Names.{apart}
+use Rattle.archive.proofs.Steps.{rest_holds}
 use Rattle.archive.proofs.names.are_apart.Goals as goal
 
 pub returns-then-is_in : goal.returns-then-is_in

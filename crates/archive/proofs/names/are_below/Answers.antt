@@ -1,9 +1,7 @@
-use Rattle.std.proofs.Common.{◌≡◌, ◌+◌, ◌-◌, ◌*◌, true, false, ◌++◌, length, take, drop, Ok, Err, sym, refl, ap, ◌∙◌, arith}
-use Rattle.std.proofs.lemmas.List.{at_drop_all, length-set}
-use Rattle.std.proofs.lemmas.Result.{err_from_is_err_and}
-use Rattle.archive.specs.Names.{holds, all_below, apart, beyond, numbers}
-use Rattle.archive.proofs.Counting.{stride, met, refused}
-use Rattle.archive.proofs.Steps.{holds-found, holds_passes, below_fails, below_passes, rest_holds, beyond_more, numbers_more, noted_more, blocks_more}
+use Rattle.std.proofs.Common.{sym, ◌∙◌, arith}
+use Rattle.std.proofs.lemmas.List.{at_drop_all}
+use Rattle.archive.specs.Names.{all_below}
+use Rattle.archive.proofs.Steps.{below_fails, below_passes}
 use Rattle.archive.proofs.names.are_below.Goals as goal
 
 pub returns-then-from-n : goal.returns-then-from-n

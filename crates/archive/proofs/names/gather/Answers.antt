@@ -1,9 +1,7 @@
-use Rattle.std.proofs.Common.{◌≡◌, ◌+◌, ◌-◌, ◌*◌, true, false, ◌++◌, length, take, drop, Ok, Err, sym, refl, ap, ◌∙◌, arith}
-use Rattle.std.proofs.lemmas.List.{at_drop_all, length-set}
-use Rattle.std.proofs.lemmas.Result.{err_from_is_err_and}
-use Rattle.archive.specs.Names.{holds, all_below, apart, beyond, numbers}
-use Rattle.archive.proofs.Counting.{stride, met, refused}
-use Rattle.archive.proofs.Steps.{holds-found, holds_passes, below_fails, below_passes, rest_holds, beyond_more, numbers_more, noted_more, blocks_more}
+use Rattle.std.proofs.Common.{◌∙◌, arith}
+use Rattle.std.proofs.lemmas.List.{length-set}
+use Rattle.archive.proofs.Counting.{stride}
+use Rattle.archive.proofs.Steps.{numbers_more}
 use Rattle.archive.proofs.names.gather.Goals as goal
 
 pub record_at-requires : goal.record_at-requires

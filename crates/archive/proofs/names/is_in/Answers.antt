@@ -1,13 +1,11 @@
-use Rattle.std.proofs.Common.{◌≡◌, ◌+◌, ◌-◌, ◌*◌, true, false, ◌++◌, length, take, drop, Ok, Err, sym, refl, ap, ◌∙◌, arith}
-use Rattle.std.proofs.lemmas.List.{at_drop_all, length-set}
-use Rattle.std.proofs.lemmas.Result.{err_from_is_err_and}
-use Rattle.archive.specs.Names.{holds, all_below, apart, beyond, numbers}
-use Rattle.archive.proofs.Counting.{stride, met, refused}
-use Rattle.archive.proofs.Steps.{holds-found, holds_passes, below_fails, below_passes, rest_holds, beyond_more, numbers_more, noted_more, blocks_more}
+use Rattle.std.proofs.Common.{sym, ◌∙◌, arith}
+use Rattle.std.proofs.lemmas.List.{at_drop_all}
+use Rattle.archive.specs.Names.{holds}
+use Rattle.archive.proofs.Steps.{holds_found, holds_passes}
 use Rattle.archive.proofs.names.is_in.Goals as goal
 
 pub returns-then-x-names : goal.returns-then-x-names
-returns-then-x-names c = sym (holds-found c.args.names.now c.loop-i.i (omega arith) c.args.x c.if-x-names.true) ∙ c.loop-i.invariant
+returns-then-x-names c = sym (holds_found c.args.names.now c.loop-i.i (omega arith) c.args.x c.if-x-names.true) ∙ c.loop-i.invariant
 
 pub loop-i-preserved : goal.loop-i-preserved
 loop-i-preserved c = sym (holds_passes c.args.names.now c.loop-i.i (omega arith) c.args.x c.if-x-names.false) ∙ c.loop-i.invariant

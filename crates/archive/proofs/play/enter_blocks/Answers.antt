@@ -1,4 +1,4 @@
-use Rattle.std.proofs.Common.{◌≡◌, ◌∙◌, arith}
+use Rattle.std.proofs.Common.{◌∙◌, arith}
 use Rattle.archive.proofs.Entering.{blocks_on}
 use Rattle.archive.proofs.play.enter_blocks.Goals as goal
 

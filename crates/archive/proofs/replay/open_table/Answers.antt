@@ -1,4 +1,4 @@
-use Rattle.std.proofs.Common.{◌≡◌, ◌+◌, ◌-◌, ◌*◌, ◌++◌, length, take, drop, sym, refl, ap, ◌∙◌, arith, rules}
+use Rattle.std.proofs.Common.{◌+◌, ◌*◌, ◌++◌, take, sym, ◌∙◌, arith, rules}
 use Rattle.std.proofs.lemmas.List.{take_all, append-nil}
 use Rattle.archive.specs.Play.{opening_table}
 use Rattle.archive.proofs.Counting.{at_end}

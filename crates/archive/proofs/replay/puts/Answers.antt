@@ -1,4 +1,4 @@
-use Rattle.std.proofs.Common.{◌≡◌, sym, refl, ap, ◌∙◌, arith}
+use Rattle.std.proofs.Common.{◌∙◌, arith}
 use Rattle.archive.proofs.Plays.{puts_on}
 use Rattle.archive.proofs.replay.puts.Goals as goal
 

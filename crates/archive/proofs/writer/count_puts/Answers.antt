@@ -1,17 +1,17 @@
-use Rattle.std.proofs.Common.{arith, rules}
+use Rattle.std.proofs.Common.{arith}
 use Rattle.std.proofs.lemmas.List.{at_drop_all}
 use Rattle.archive.specs.Laid.{put_count}
-use Rattle.archive.proofs.Entries.{puts-counted}
+use Rattle.archive.proofs.Entries.{puts_counted}
 use Rattle.archive.proofs.writer.count_puts.Goals as goal
 
 pub overflow_add-count : goal.overflow_add-count
 overflow_add-count g c =
-    let v = puts-counted c.args.entries.now c.loop-i.i c.loop-i.count c.one_put-count.result c.index-entries-i.result (omega arith) c.index-entries-i.is c.one_put-count.ensures c.loop-i.invariant in
+    let v = puts_counted c.args.entries.now c.loop-i.i c.loop-i.count c.one_put-count.result c.index-entries-i.result (omega arith) c.index-entries-i.is c.one_put-count.ensures c.loop-i.invariant in
     omega (arith, v.1)
 
 pub loop-i-preserved : goal.loop-i-preserved
 loop-i-preserved g c =
-    puts-counted c.args.entries.now c.loop-i.i c.loop-i.count c.one_put-count.result c.index-entries-i.result (omega arith) c.index-entries-i.is c.one_put-count.ensures c.loop-i.invariant
+    puts_counted c.args.entries.now c.loop-i.i c.loop-i.count c.one_put-count.result c.index-entries-i.result (omega arith) c.index-entries-i.is c.one_put-count.ensures c.loop-i.invariant
 
 pub returns : goal.returns
 returns g c =

@@ -1,9 +1,9 @@
-use Rattle.std.proofs.Common.{◌≡◌, ℕ, ◌+◌, List, ◌++◌, length, sym, ap, ◌∙◌, arith}
+use Rattle.std.proofs.Common.{◌≡◌, ℕ, ◌+◌, List, ◌++◌, length, ap, ◌∙◌, arith}
 use Rattle.std.proofs.lemmas.List.{length-append}
 use Rattle.archive.specs.Laying.{laid_over}
-use Rattle.archive.specs.Laid.{front_bytes, block_in, look_count, put_count, looks_in, puts_in}
+use Rattle.archive.specs.Laid.{front_bytes, look_count, put_count, looks_in, puts_in}
 use Rattle.archive.proofs.Laid.{laid_next}
-use Rattle.archive.proofs.Entries.{block_split, block_long, front-wide}
+use Rattle.archive.proofs.Entries.{block_split, block_long, front_wide}
 use Rattle.archive.proofs.writer.lay_block.Goals as goal
 
 pub lay_front-requires : goal.lay_front-requires
@@ -19,7 +19,7 @@ pub returns : goal.returns
 returns g c =
     let b = block_long g.S.Stamp.kind.order g.R.Record.kind.form c.args.stamp c.args.ticket c.args.entries.now g.met.S.Stamp.lawful.ordered.formed in
     let fb : List ℕ = front_bytes g.S.Stamp.kind.order c.args.stamp c.args.ticket (look_count c.args.entries.now) (put_count c.args.entries.now) in
-    let fw : length (front_bytes g.S.Stamp.kind.order c.args.stamp c.args.ticket (look_count c.args.entries.now) (put_count c.args.entries.now)) ≡ 16 = front-wide g.S.Stamp.kind.order g.R.Record.kind.form c.args.stamp c.args.ticket c.args.entries.now g.met.S.Stamp.lawful.ordered.formed (look_count c.args.entries.now) (put_count c.args.entries.now) in
+    let fw : length (front_bytes g.S.Stamp.kind.order c.args.stamp c.args.ticket (look_count c.args.entries.now) (put_count c.args.entries.now)) ≡ 16 = front_wide g.S.Stamp.kind.order g.R.Record.kind.form c.args.stamp c.args.ticket c.args.entries.now g.met.S.Stamp.lawful.ordered.formed (look_count c.args.entries.now) (put_count c.args.entries.now) in
     let lb : List ℕ = looks_in g.S.Stamp.kind.order g.R.Record.kind.form c.args.entries.now in
     let pb : List ℕ = puts_in g.S.Stamp.kind.order g.R.Record.kind.form c.args.entries.now in
     let d : List ℕ = c.args.space.now in

@@ -1,4 +1,4 @@
-use Rattle.std.proofs.Common.{◌≡◌, ◌+◌, [], ◌∷◌, ◌++◌, length, sym, ap, ◌∙◌, arith}
+use Rattle.std.proofs.Common.{◌+◌, [], ◌∷◌, ◌++◌, ap, ◌∙◌, arith}
 use Rattle.kinds.specs.Bytes.{be4}
 use Rattle.archive.specs.Laying.{laid_over}
 use Rattle.archive.proofs.Laid.{laid_next}

@@ -1,4 +1,3 @@
-use Rattle.std.proofs.Common.{length}
 use Rattle.archive.specs.Laid.{puts_in}
 use Rattle.archive.proofs.Entries.{Left}
 use Rattle.archive.proofs.writer.lay_puts.Given as goal

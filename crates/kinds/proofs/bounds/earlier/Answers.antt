@@ -1,12 +1,12 @@
 use Rattle.std.proofs.Common.{rules}
-use Rattle.kinds.proofs.BoundLaws.{earlier-told}
+use Rattle.kinds.proofs.BoundLaws.{earlier_told}
 use Rattle.kinds.proofs.bounds.earlier.Goals as goal
 
 pub returns-in-None : goal.returns-in-None
-returns-in-None g c = record { value = search rules; law = earlier-told g.S.Stamp.kind.order g.met.S.Stamp.lawful.ordered _ _ _ (search rules) }
+returns-in-None g c = record { value = search rules; law = earlier_told g.S.Stamp.kind.order g.met.S.Stamp.lawful.ordered _ _ _ (search rules) }
 
 pub returns-in-Less : goal.returns-in-Less
-returns-in-Less g c = record { value = search rules; law = earlier-told g.S.Stamp.kind.order g.met.S.Stamp.lawful.ordered _ _ _ (search rules) }
+returns-in-Less g c = record { value = search rules; law = earlier_told g.S.Stamp.kind.order g.met.S.Stamp.lawful.ordered _ _ _ (search rules) }
 
 pub returns-in_default : goal.returns-in_default
-returns-in_default g c = record { value = search rules; law = earlier-told g.S.Stamp.kind.order g.met.S.Stamp.lawful.ordered _ _ _ (search rules) }
+returns-in_default g c = record { value = search rules; law = earlier_told g.S.Stamp.kind.order g.met.S.Stamp.lawful.ordered _ _ _ (search rules) }

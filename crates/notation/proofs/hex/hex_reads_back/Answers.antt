@@ -1,5 +1,5 @@
-use Rattle.notation.proofs.HexLaws.{reads-back}
+use Rattle.notation.proofs.HexLaws.{reads_back}
 use Rattle.notation.proofs.hex.hex_reads_back.Goals as goal
 
 pub returns : goal.returns
-returns c = reads-back
+returns c = reads_back

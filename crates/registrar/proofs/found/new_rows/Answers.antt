@@ -1,7 +1,7 @@
-use Rattle.std.proofs.Common.{◌≡◌, ◌<◌, length, get_or, sym, ap, ◌∙◌, arith, rules}
+use Rattle.std.proofs.Common.{◌≡◌, ◌<◌, length, get_or, sym, ◌∙◌, arith, rules}
 use Rattle.model.specs.Rows.{founded_row}
 use Rattle.registrar.specs.Registry.{founded_rows}
-use Rattle.registrar.proofs.Filling.{Filled, filled_more, filled_read, filled_all, length-founded, founded_at}
+use Rattle.registrar.proofs.Filling.{filled_more, filled_read, filled_all, length-founded, founded_at}
 use Rattle.registrar.proofs.found.new_rows.Goals as goal
 
 pub offset_bounds-rows-i : goal.offset_bounds-rows-i

@@ -1,4 +1,3 @@
-use Rattle.std.proofs.Common.{length}
 use Rattle.registrar.specs.Registry.{founded_rows}
 use Rattle.registrar.proofs.Filling.{Filled}
 use Rattle.registrar.proofs.found.new_rows.Given as goal

@@ -1,12 +1,12 @@
 use Rattle.std.proofs.Common.{◌≡◌, take, sym, ap, ◌∙◌, arith}
 use Rattle.registrar.specs.Calls.{ahead}
-use Rattle.registrar.proofs.Heads.{ahead_more, ahead-ends}
+use Rattle.registrar.proofs.Heads.{ahead_more, ahead_ends}
 use Rattle.registrar.proofs.journal.place_of.Goals as goal
 
 pub returns-then-before : goal.returns-then-before
 returns-then-before g c =
     record {
-      place = sym (ahead-ends g.S.Stamp.kind.order c.args.stamp c.args.heads.now c.args.n c.loop-i.i c.index-heads-i.result (omega arith) (omega arith) (sym c.if-before.ensures) c.loop-i.invariant);
+      place = sym (ahead_ends g.S.Stamp.kind.order c.args.stamp c.args.heads.now c.args.n c.loop-i.i c.index-heads-i.result (omega arith) (omega arith) (sym c.if-before.ensures) c.loop-i.invariant);
       within = omega arith;
     }
 

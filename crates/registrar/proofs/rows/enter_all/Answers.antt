@@ -1,4 +1,4 @@
-use Rattle.std.proofs.Common.{◌≡◌, ◌+◌, drop, sym, ap, ◌∙◌, arith}
+use Rattle.std.proofs.Common.{◌+◌, drop, sym, ap, ◌∙◌, arith}
 use Rattle.registrar.specs.Deciding.{rows_after}
 use Rattle.registrar.proofs.Steps.{at_next, at_end}
 use Rattle.registrar.proofs.rows.enter_all.Goals as goal

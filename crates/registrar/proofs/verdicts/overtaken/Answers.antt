@@ -1,4 +1,4 @@
-use Rattle.std.proofs.Common.{◌≡◌, ◌+◌, ◌||◌, drop, sym, ap, ◌∙◌, arith}
+use Rattle.std.proofs.Common.{◌+◌, ◌||◌, drop, sym, ap, ◌∙◌, arith}
 use Rattle.registrar.specs.Deciding.{overtaken}
 use Rattle.registrar.proofs.Steps.{at_next, at_end}
 use Rattle.registrar.proofs.verdicts.overtaken.Goals as goal

@@ -1,4 +1,4 @@
-use Rattle.std.proofs.Common.{◌≡◌, ◌+◌, drop, sym, ap, ◌∙◌, arith}
+use Rattle.std.proofs.Common.{◌+◌, drop, sym, ap, ◌∙◌, arith}
 use Rattle.registrar.specs.Deciding.{upper_bound, and_then}
 use Rattle.registrar.proofs.Steps.{at_next, at_end}
 use Rattle.registrar.proofs.verdicts.upper_after.Goals as goal

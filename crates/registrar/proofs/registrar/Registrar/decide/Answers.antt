@@ -1,6 +1,6 @@
-use Rattle.std.proofs.Common.{◌≡◌, ◌+◌, ◌%◌, ◌<◌, ◌≤◌, length, take, sym, refl, ap, ◌∙◌, arith, length-take, rules}
+use Rattle.std.proofs.Common.{◌%◌, ◌<◌, length, take, sym, refl, ap, ◌∙◌, arith, length-take, rules}
 use Rattle.registrar.specs.Calls.{registry_in}
-use Rattle.registrar.proofs.Decisions.{by_stamp_below, own_decided, decide-beyond, decide_full, decide_crowded, decide-whole}
+use Rattle.registrar.proofs.Decisions.{by_stamp_below, own_decided, decide_beyond, decide_full, decide_crowded, decide_whole}
 use Rattle.registrar.proofs.registrar.Registrar.decide.Goals as goal
 
 pub bounds-queue-place : goal.bounds-queue-place
@@ -17,7 +17,7 @@ block-requires g c = let fits = c.if-not-fit.ensures.lengths refl in omega arith
 
 pub returns-then-beyond : goal.returns-then-beyond
 returns-then-beyond g c =
-    decide-beyond g.S.Stamp.kind (registry_in c.args.self.now c.args.tables) c.index-queue-place.result c.front-entries.result.now
+    decide_beyond g.S.Stamp.kind (registry_in c.args.self.now c.args.tables) c.index-queue-place.result c.front-entries.result.now
     (sym c.if-not-fit.ensures.told) c.if-self-eq0.false (c.if-not-fit.ensures.lengths refl).queue c.index-queue-place.is
     (c.front-entries.ensures ∙ ap (take c.index-queue-place.result.count) c.block.ensures) (sym c.if-beyond.ensures)
 
@@ -49,7 +49,7 @@ overflow_add-self-3 g c =
 
 pub returns : goal.returns
 returns g c =
-    decide-whole g.S.Stamp.kind (registry_in c.args.self.now c.args.tables) c.index-queue-place.result c.front-entries.result.now
+    decide_whole g.S.Stamp.kind (registry_in c.args.self.now c.args.tables) c.index-queue-place.result c.front-entries.result.now
     (sym c.if-not-fit.ensures.told) c.if-self-eq0.false (c.if-not-fit.ensures.lengths refl).queue c.index-queue-place.is
     (c.front-entries.ensures ∙ ap (take c.index-queue-place.result.count) c.block.ensures) (sym c.if-beyond.ensures) c.if-self-heads.false c.if-self-ge32.false
     c.verdict-verdict.ensures c.carry_out-added.ensures.count (own_decided c.args.self.now c.carry_out-added.result c.min.ensures)

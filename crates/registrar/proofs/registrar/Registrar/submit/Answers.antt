@@ -1,11 +1,11 @@
-use Rattle.std.proofs.Common.{◌≡◌, length, sym, refl, ap, ◌∙◌, arith, length-take}
+use Rattle.std.proofs.Common.{length, sym, refl, ap, ◌∙◌, arith, length-take}
 use Rattle.registrar.specs.Calls.{registry_in}
-use Rattle.registrar.proofs.Wholes.{submit-sheet, submit-whole}
+use Rattle.registrar.proofs.Wholes.{submit_sheet, submit_whole}
 use Rattle.registrar.proofs.registrar.Registrar.submit.Goals as goal
 
 pub returns-then-sheet-ne16 : goal.returns-then-sheet-ne16
 returns-then-sheet-ne16 g c =
-    submit-sheet (registry_in c.args.self.now c.args.tables) c.args.job c.args.sheet.now (sym c.if-not-fit.ensures.told) c.if-sheet-ne16.true
+    submit_sheet (registry_in c.args.self.now c.args.tables) c.args.job c.args.sheet.now (sym c.if-not-fit.ensures.told) c.if-sheet-ne16.true
 
 pub lay-requires : goal.lay-requires
 lay-requires g c =
@@ -15,6 +15,6 @@ lay-requires g c =
 
 pub returns : goal.returns
 returns g c =
-    submit-whole (registry_in c.args.self.now c.args.tables) c.args.job c.args.sheet.now (sym c.if-not-fit.ensures.told)
+    submit_whole (registry_in c.args.self.now c.args.tables) c.args.job c.args.sheet.now (sym c.if-not-fit.ensures.told)
     c.if-sheet-ne16.false (sym c.if-shut.ensures) c.front-entries.ensures (sym c.if-beyond.ensures) (omega arith) (omega arith)
     c.new.ensures c.next_place-place.ensures.place c.store.ensures c.lay.ensures
