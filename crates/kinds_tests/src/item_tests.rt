@@ -73,7 +73,7 @@ fn item_forms(rt: HostRuntime) -> Result<(), Fail> {
             (2, 65_535, 65_535),
         ),
     ] {
-        record_form(&rt, item, bytes)?;
+        record_form(item, bytes)?;
         assert_eq!(rt;
             item_numbers(<Item as Record>::from_bytes(bytes)),
             Some(read)
@@ -84,20 +84,17 @@ fn item_forms(rt: HostRuntime) -> Result<(), Fail> {
 
 // A tag above 2, data of a withdrawn item, and a sub-assembly that is counted 0 times.
 #[test]
-fn item_no_forms(rt: HostRuntime) {
-    no_records::<Item>(
-        &rt,
-        &[
-            [3, 0, 0, 0, 0, 0, 0, 1, 0, 0, 0, 0],
-            [255, 0, 0, 0, 0, 0, 0, 1, 0, 0, 0, 0],
-            [0, 0, 0, 0, 1, 0, 0, 0, 0, 0, 0, 0],
-            [0, 0, 0, 0, 0, 1, 0, 0, 0, 0, 0, 0],
-            [0, 0, 0, 0, 0, 0, 1, 0, 0, 0, 0, 0],
-            [0, 0, 0, 0, 0, 0, 0, 1, 0, 0, 0, 0],
-            [2, 0, 0, 0, 0, 0, 0, 0, 0, 0, 0, 0],
-            [2, 0, 0, 0, 255, 255, 0, 0, 0, 0, 0, 0],
-        ],
-    );
+fn item_no_forms() -> Result<(), Fail> {
+    no_records::<Item>(&[
+        [3, 0, 0, 0, 0, 0, 0, 1, 0, 0, 0, 0],
+        [255, 0, 0, 0, 0, 0, 0, 1, 0, 0, 0, 0],
+        [0, 0, 0, 0, 1, 0, 0, 0, 0, 0, 0, 0],
+        [0, 0, 0, 0, 0, 1, 0, 0, 0, 0, 0, 0],
+        [0, 0, 0, 0, 0, 0, 1, 0, 0, 0, 0, 0],
+        [0, 0, 0, 0, 0, 0, 0, 1, 0, 0, 0, 0],
+        [2, 0, 0, 0, 0, 0, 0, 0, 0, 0, 0, 0],
+        [2, 0, 0, 0, 255, 255, 0, 0, 0, 0, 0, 0],
+    ])
 }
 
 // Each case with each of its seven zero bytes, those beside the tag and the data, set to 1.

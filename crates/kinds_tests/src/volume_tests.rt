@@ -24,19 +24,16 @@ fn numbers(stamp: Option<VolumePage>) -> Option<(u32, u32)> {
 
 // By volume first, and then by page.
 #[test]
-fn volume_order(rt: HostRuntime) {
-    in_order(
-        &rt,
-        &[
-            at(0, 0),
-            at(0, 9_999),
-            at(1, 0),
-            at(9_998, 9_999),
-            at(9_999, 0),
-            at(9_999, 9_999),
-        ],
-    );
-    in_order(&rt, &[at(9_998, 10_000), at(10_000, 0), at(10_000, 10_000)]);
+fn volume_order() -> Result<(), Fail> {
+    in_order(&[
+        at(0, 0),
+        at(0, 9_999),
+        at(1, 0),
+        at(9_998, 9_999),
+        at(9_999, 0),
+        at(9_999, 9_999),
+    ])?;
+    in_order(&[at(9_998, 10_000), at(10_000, 0), at(10_000, 10_000)])
 }
 
 #[test]
@@ -120,7 +117,7 @@ fn volume_forms(rt: HostRuntime) -> Result<(), Fail> {
             [0, 0, 0x27, 0x0f, 0, 0, 0x27, 0x0f],
         ),
     ] {
-        stamp_form(&rt, at(volume, page), bytes)?;
+        stamp_form(at(volume, page), bytes)?;
         assert_eq!(rt;
             numbers(<VolumePage as Stamp>::from_bytes(bytes)),
             Some((volume.min(9_999), page.min(9_999)))
@@ -131,16 +128,13 @@ fn volume_forms(rt: HostRuntime) -> Result<(), Fail> {
 
 // 10,000 is 0x2710.
 #[test]
-fn volume_no_forms(rt: HostRuntime) {
-    no_stamps::<VolumePage>(
-        &rt,
-        &[
-            [0, 0, 0x27, 0x10, 0, 0, 0, 0],
-            [0, 0, 0, 0, 0, 0, 0x27, 0x10],
-            [0, 0, 0x27, 0x10, 0, 0, 0x27, 0x10],
-            [1, 0, 0, 0, 0, 0, 0, 0],
-            [0, 0, 0, 0, 1, 0, 0, 0],
-            [255, 255, 255, 255, 255, 255, 255, 255],
-        ],
-    );
+fn volume_no_forms() -> Result<(), Fail> {
+    no_stamps::<VolumePage>(&[
+        [0, 0, 0x27, 0x10, 0, 0, 0, 0],
+        [0, 0, 0, 0, 0, 0, 0x27, 0x10],
+        [0, 0, 0x27, 0x10, 0, 0, 0x27, 0x10],
+        [1, 0, 0, 0, 0, 0, 0, 0],
+        [0, 0, 0, 0, 1, 0, 0, 0],
+        [255, 255, 255, 255, 255, 255, 255, 255],
+    ])
 }

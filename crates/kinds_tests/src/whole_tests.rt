@@ -30,20 +30,17 @@ fn place(stamp: Option<Whole>) -> Option<u64> {
 }
 
 #[test]
-fn whole_order(rt: HostRuntime) {
-    in_order(
-        &rt,
-        &[
-            whole(0),
-            whole(1),
-            whole(65_535),
-            whole(65_536),
-            whole(LAST - 1),
-            whole(LAST),
-        ],
-    );
-    in_order(&rt, &[whole(LAST - 1), whole(OVER)]);
-    in_order(&rt, &[whole(LAST - 1), whole(MOST)]);
+fn whole_order() -> Result<(), Fail> {
+    in_order(&[
+        whole(0),
+        whole(1),
+        whole(65_535),
+        whole(65_536),
+        whole(LAST - 1),
+        whole(LAST),
+    ])?;
+    in_order(&[whole(LAST - 1), whole(OVER)])?;
+    in_order(&[whole(LAST - 1), whole(MOST)])
 }
 
 #[test]
@@ -101,7 +98,7 @@ fn whole_forms(rt: HostRuntime) -> Result<(), Fail> {
         (OVER, [0x3f, 255, 255, 255, 255, 255, 255, 255]),
         (MOST, [0x3f, 255, 255, 255, 255, 255, 255, 255]),
     ] {
-        stamp_form(&rt, whole(content), bytes)?;
+        stamp_form(whole(content), bytes)?;
         assert_eq!(rt;
             place(<Whole as Stamp>::from_bytes(bytes)),
             Some(content.min(LAST))
@@ -111,14 +108,11 @@ fn whole_forms(rt: HostRuntime) -> Result<(), Fail> {
 }
 
 #[test]
-fn whole_no_forms(rt: HostRuntime) {
-    no_stamps::<Whole>(
-        &rt,
-        &[
-            [0x40, 0, 0, 0, 0, 0, 0, 0],
-            [0x40, 0, 0, 0, 0, 0, 0, 1],
-            [0x80, 0, 0, 0, 0, 0, 0, 0],
-            [255, 255, 255, 255, 255, 255, 255, 255],
-        ],
-    );
+fn whole_no_forms() -> Result<(), Fail> {
+    no_stamps::<Whole>(&[
+        [0x40, 0, 0, 0, 0, 0, 0, 0],
+        [0x40, 0, 0, 0, 0, 0, 0, 1],
+        [0x80, 0, 0, 0, 0, 0, 0, 0],
+        [255, 255, 255, 255, 255, 255, 255, 255],
+    ])
 }

@@ -1,13 +1,14 @@
 // A schedule's printout against what it should be.
 use schedule_text::run::{Ending, run};
 use std::alloc::Global;
-use std::process::Abort;
 use std::test::Fail;
 
 // A schedule that runs to its end.
-pub fn prints(rt: &impl Abort, heap: Global, input: &str, text: &str) -> Result<(), Fail> {
+pub fn prints(heap: Global, input: &str, text: &str) -> Result<(), Fail> {
     let printout = run(heap, input.as_bytes())?;
-    assert!(rt; printout.text.as_str() == text, "{}", input);
+    if printout.text.as_str() != text {
+        return Err(Fail::new(input));
+    }
     match printout.ending {
         Ending::Done => Ok(()),
         Ending::Error { line: _ } => Err(Fail::new("the run ended at a line")),
@@ -15,20 +16,14 @@ pub fn prints(rt: &impl Abort, heap: Global, input: &str, text: &str) -> Result<
 }
 
 // A schedule that ends at a line that is no call.
-pub fn stops(
-    rt: &impl Abort,
-    heap: Global,
-    input: &str,
-    at: usize,
-    text: &str,
-) -> Result<(), Fail> {
+pub fn stops(heap: Global, input: &str, at: usize, text: &str) -> Result<(), Fail> {
     let printout = run(heap, input.as_bytes())?;
-    assert!(rt; printout.text.as_str() == text, "{}", input);
+    if printout.text.as_str() != text {
+        return Err(Fail::new(input));
+    }
     match printout.ending {
         Ending::Done => Err(Fail::new("the run came to its end")),
-        Ending::Error { line } => {
-            assert_eq!(rt; line, at);
-            Ok(())
-        },
+        Ending::Error { line } if line == at => Ok(()),
+        Ending::Error { line: _ } => Err(Fail::new("the run ended at another line")),
     }
 }
