@@ -16,7 +16,7 @@ fn card_form(revision: u32, unit: Unit, mass: u32, bytes: [u8; 12]) -> Result<()
         },
         bytes,
     )?;
-    match <Card as Record>::from_bytes(bytes) {
+    match Card::from_bytes(bytes) {
         Some(card)
             if (card.revision, card.unit.number(), card.mass) == (revision, unit.number(), mass) =>
             { Ok(()) }
@@ -27,7 +27,7 @@ fn card_form(revision: u32, unit: Unit, mass: u32, bytes: [u8; 12]) -> Result<()
 
 #[test]
 fn card_number(rt: HostRuntime) {
-    assert_eq!(rt; <Card as Record>::number(), 1);
+    assert_eq!(rt; Card::number(), 1);
 }
 
 #[test]

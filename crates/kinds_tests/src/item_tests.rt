@@ -16,7 +16,7 @@ fn item_numbers(item: Option<Item>) -> Option<(u8, u32, u16)> {
 
 #[test]
 fn item_number_and_tags(rt: HostRuntime) {
-    assert_eq!(rt; <Item as Record>::number(), 2);
+    assert_eq!(rt; Item::number(), 2);
     assert_eq!(rt; Item::Withdrawn.tag(), 0);
     assert_eq!(rt; (Item::Solid { shape: 9 }).tag(), 1);
     assert_eq!(rt; (Item::SubAssembly { part: 9, count: 0 }).tag(), 2);
@@ -74,10 +74,7 @@ fn item_forms(rt: HostRuntime) -> Result<(), Fail> {
         ),
     ] {
         record_form(item, bytes)?;
-        assert_eq!(rt;
-            item_numbers(<Item as Record>::from_bytes(bytes)),
-            Some(read)
-        );
+        assert_eq!(rt; item_numbers(Item::from_bytes(bytes)), Some(read));
     }
     Ok(())
 }
@@ -105,12 +102,12 @@ fn item_zero_bytes(rt: HostRuntime) {
         [1, 0, 0, 0, 1, 2, 3, 4, 0, 0, 0, 0],
         [2, 0, 0, 0, 1, 2, 3, 4, 0, 0, 0, 0],
     ] {
-        assert!(rt; <Item as Record>::from_bytes(form).is_some());
+        assert!(rt; Item::from_bytes(form).is_some());
         for at in 1..12 {
             if at < 4 || 8 <= at {
                 let mut bytes = form;
                 bytes[at] = 1;
-                assert!(rt; <Item as Record>::from_bytes(bytes).is_none());
+                assert!(rt; Item::from_bytes(bytes).is_none());
             }
         }
     }

@@ -38,8 +38,8 @@ fn volume_order() -> Result<(), Fail> {
 
 #[test]
 fn volume_number_least_and_counted(rt: HostRuntime) {
-    assert_eq!(rt; <VolumePage as Stamp>::number(), 2);
-    let least = <VolumePage as Stamp>::least();
+    assert_eq!(rt; VolumePage::number(), 2);
+    let least = VolumePage::least();
     assert_eq!(rt; (least.volume, least.page), (0, 0));
     for (content, counts_as) in [
         (0, 0),
@@ -119,7 +119,7 @@ fn volume_forms(rt: HostRuntime) -> Result<(), Fail> {
     ] {
         stamp_form(at(volume, page), bytes)?;
         assert_eq!(rt;
-            numbers(<VolumePage as Stamp>::from_bytes(bytes)),
+            numbers(VolumePage::from_bytes(bytes)),
             Some((volume.min(9_999), page.min(9_999)))
         );
     }

@@ -45,8 +45,8 @@ fn whole_order() -> Result<(), Fail> {
 
 #[test]
 fn whole_number_least_and_counted(rt: HostRuntime) {
-    assert_eq!(rt; <Whole as Stamp>::number(), 1);
-    assert_eq!(rt; <Whole as Stamp>::least().place, 0);
+    assert_eq!(rt; Whole::number(), 1);
+    assert_eq!(rt; Whole::least().place, 0);
     for (content, counts_as) in [
         (0, 0),
         (LAST - 1, LAST - 1),
@@ -99,10 +99,7 @@ fn whole_forms(rt: HostRuntime) -> Result<(), Fail> {
         (MOST, [0x3f, 255, 255, 255, 255, 255, 255, 255]),
     ] {
         stamp_form(whole(content), bytes)?;
-        assert_eq!(rt;
-            place(<Whole as Stamp>::from_bytes(bytes)),
-            Some(content.min(LAST))
-        );
+        assert_eq!(rt; place(Whole::from_bytes(bytes)), Some(content.min(LAST)));
     }
     Ok(())
 }

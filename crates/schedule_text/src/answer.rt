@@ -4,8 +4,12 @@ ghost use Rattle.schedule_text.specs.Answers.{pick_line, form_line, read_line, p
 ghost use Rattle.schedule_text.specs.Laws.{FormsReadBack};
 
 use crate::command::{Between, Bounds, Command, Value, Written};
+use kinds::card::Card;
+use kinds::item::Item;
 use kinds::stamp::Stamp;
 use kinds::value::Record;
+use kinds::volume::VolumePage;
+use kinds::whole::Whole;
 use notation::hex::Hex;
 use notation::text::{Notation, Shown, ShownOr};
 use std::alloc::{AllocError, Global};
@@ -106,30 +110,10 @@ fn answer_read(heap: Global, form: Written) -> Result<String, AllocError>
     ensures { IfOk result (λ t. string_bytes t ≡ reading form) }
 {
     match form {
-        Written::AsWhole(form) => read_text(
-            heap,
-            "whole",
-            <kinds::whole::Whole as Stamp>::from_bytes(form),
-            &form,
-        ),
-        Written::AsPage(form) => read_text(
-            heap,
-            "page",
-            <kinds::volume::VolumePage as Stamp>::from_bytes(form),
-            &form,
-        ),
-        Written::AsCard(form) => read_text(
-            heap,
-            "card",
-            <kinds::card::Card as Record>::from_bytes(form),
-            &form,
-        ),
-        Written::AsItem(form) => read_text(
-            heap,
-            "item",
-            <kinds::item::Item as Record>::from_bytes(form),
-            &form,
-        ),
+        Written::AsWhole(form) => read_text(heap, "whole", Whole::from_bytes(form), &form),
+        Written::AsPage(form) => read_text(heap, "page", VolumePage::from_bytes(form), &form),
+        Written::AsCard(form) => read_text(heap, "card", Card::from_bytes(form), &form),
+        Written::AsItem(form) => read_text(heap, "item", Item::from_bytes(form), &form),
     }
 }
 
