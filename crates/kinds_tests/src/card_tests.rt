@@ -17,10 +17,13 @@ fn card_form(revision: u32, unit: Unit, mass: u32, bytes: [u8; 12]) -> Result<()
         bytes,
     )?;
     match Card::from_bytes(bytes) {
-        Some(card)
-            if (card.revision, card.unit.number(), card.mass) == (revision, unit.number(), mass) =>
-            { Ok(()) }
-        Some(_) => Err(Fail::new("a card is read otherwise")),
+        Some(card) => {
+            let read = (card.revision, card.unit.number(), card.mass);
+            if read != (revision, unit.number(), mass) {
+                return Err(Fail::new("a card is read otherwise"));
+            }
+            Ok(())
+        }
         None => Err(Fail::new("a card is no form")),
     }
 }
