@@ -3,6 +3,7 @@ use Rattle.std.specs.Prelude.{ℕ, ◌+◌, Bool, cond, ◌&&◌, List, ◌∷�
 use Rattle.kinds.specs.Bytes.{be4, number4, part}
 use Rattle.kinds.specs.Values.{RecordKind}
 use Rattle.kinds.specs.declared.card.Card.{Card}
+use Rattle.kinds.specs.declared.card.NoUnit.{NoUnit}
 use Rattle.kinds.specs.declared.card.Unit.{Unit as Measure}
 use Rattle.kinds.specs.declared.card.Unit.TheVariants.{Millimetre, Centimetre, Metre, Inch}
 
@@ -16,6 +17,9 @@ unit_number Inch = 3
 abbrev pub unit_numbered : ℕ → Option Measure
 unit_numbered n =
     cond (n == 0) (Some Millimetre) (cond (n == 1) (Some Centimetre) (cond (n == 2) (Some Metre) (cond (n == 3) (Some Inch) None)))
+
+abbrev pub no_unit : ℕ → NoUnit
+no_unit n = record { 0 = n }
 
 abbrev pub card_written : Card → List ℕ
 card_written c = be4 c.revision ++ (unit_number c.unit ∷ 0 ∷ 0 ∷ 0 ∷ be4 c.mass)

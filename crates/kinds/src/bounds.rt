@@ -4,17 +4,20 @@ ghost use Rattle.kinds.specs.Stamps.{Same};
 ghost use Rattle.kinds.specs.Bounds.{later as later_of, earlier as earlier_of, same as same_as, LaterLaw, EarlierLaw};
 
 use crate::stamp::Stamp;
-use std::cmp::Ordering;
+
+// Whether a stamp is before another.
+pub fn before<S: Stamp>(a: S, b: S) -> bool
+    ensures { result ≡ S.Stamp.kind.order.before a b }
+{
+    a.compare(b).is_lt()
+}
 
 // The later of two stamps; of two that are the same, the first.
 pub fn later<S: Stamp>(a: S, b: S) -> S
     ensures value { result ≡ later_of S.Stamp.kind.order a b }
     ensures law { LaterLaw S.Stamp.kind.order a b result }
 {
-    match a.compare(b) {
-        Ordering::Less => b,
-        _ => a,
-    }
+    if before(a, b) { b } else { a }
 }
 
 // The earlier of a bound that may be absent and a stamp; of two that are the same, the bound.
@@ -23,11 +26,8 @@ pub fn earlier<S: Stamp>(upper: Option<S>, s: S) -> S
     ensures law { EarlierLaw S.Stamp.kind.order upper s result }
 {
     match upper {
-        None => s,
-        Some(bound) => match s.compare(bound) {
-            Ordering::Less => s,
-            _ => bound,
-        },
+        Some(bound) if !before(s, bound) => bound,
+        _ => s,
     }
 }
 
@@ -37,8 +37,5 @@ pub fn same<S: Stamp>(a: S, b: S) -> bool
     ensures told { result ≡ true → Same S.Stamp.kind.order a b }
     ensures law { Same S.Stamp.kind.order a b → result ≡ true }
 {
-    match a.compare(b) {
-        Ordering::Equal => true,
-        _ => false,
-    }
+    a.compare(b).is_eq()
 }

@@ -1,47 +1,63 @@
 // Cards, record kind 1: the revision of a part, the unit of its drawing, and its mass.
 ghost use Rattle.std.specs.Prelude.{◌≡◌};
-ghost use Rattle.kinds.specs.Card.{unit_number, unit_numbered, card_kind, card_read};
+ghost use Rattle.std.specs.Option.{ok_or};
+ghost use Rattle.kinds.specs.Card.{unit_number, unit_numbered, no_unit, card_kind, card_read};
 ghost use Rattle.kinds.specs.CardLaws.{card_laws};
 
 use crate::value::Record;
+use std::error::Error;
+use std::fmt;
 
-#[derive(Clone, Copy)]
+// The units, each with its number in a card's form.
+#[derive(Clone, Copy, Debug, PartialEq, Eq)]
 pub enum Unit {
-    Millimetre,
-    Centimetre,
-    Metre,
-    Inch,
+    Millimetre = 0,
+    Centimetre = 1,
+    Metre = 2,
+    Inch = 3,
 }
 
-impl Unit {
-    // The number of a unit in a card's form.
-    pub fn number(self) -> u8
-        ensures { result ≡ unit_number self }
-    {
-        match self {
-            Unit::Millimetre => 0,
-            Unit::Centimetre => 1,
-            Unit::Metre => 2,
-            Unit::Inch => 3,
-        }
-    }
+// A number that no unit has.
+#[derive(Clone, Copy, Debug, PartialEq, Eq)]
+pub struct NoUnit(pub u8);
 
-    // The unit that has a number, if any.
-    pub fn numbered(n: u8) -> Option<Unit>
-        ensures { result ≡ unit_numbered n }
-    {
+impl fmt::Display for NoUnit {
+    fn fmt<W: fmt::Write>(&self, f: &mut fmt::Formatter<W>) -> fmt::Result {
+        let n = self.0;
+        write!(f, "no unit has number {n}")
+    }
+}
+
+impl Error for NoUnit {}
+
+// The number of a unit.
+impl From<Unit> for u8 {
+    ghost from_gives = { λ unit n. n ≡ unit_number unit };
+
+    fn from(unit: Unit) -> u8 {
+        unit as u8
+    }
+}
+
+// The unit that has a number, if any.
+impl TryFrom<u8> for Unit {
+    type Error = NoUnit;
+
+    ghost try_from_gives = { λ n r. r ≡ ok_or (unit_numbered n) (no_unit n) };
+
+    fn try_from(n: u8) -> Result<Unit, NoUnit> {
         match n {
-            0 => Some(Unit::Millimetre),
-            1 => Some(Unit::Centimetre),
-            2 => Some(Unit::Metre),
-            3 => Some(Unit::Inch),
-            _ => None,
+            0 => Ok(Unit::Millimetre),
+            1 => Ok(Unit::Centimetre),
+            2 => Ok(Unit::Metre),
+            3 => Ok(Unit::Inch),
+            _ => Err(NoUnit(n)),
         }
     }
 }
 
 // The mass is in grams.
-#[derive(Clone, Copy)]
+#[derive(Clone, Copy, Debug, PartialEq, Eq)]
 pub struct Card {
     pub revision: u32,
     pub unit: Unit,
@@ -61,7 +77,7 @@ impl Record for Card {
     fn to_bytes(self) -> [u8; 12] {
         let [a, b, c, d] = self.revision.to_be_bytes();
         let [e, f, g, h] = self.mass.to_be_bytes();
-        [a, b, c, d, self.unit.number(), 0, 0, 0, e, f, g, h]
+        [a, b, c, d, u8::from(self.unit), 0, 0, 0, e, f, g, h]
     }
 
     // A unit above 3, or a byte beside it that is not zero, is no form.
@@ -71,7 +87,7 @@ impl Record for Card {
         let [a, b, c, d, unit, 0, 0, 0, e, f, g, h] = bytes else {
             return None;
         };
-        let unit = Unit::numbered(unit)?;
+        let unit = Unit::try_from(unit).ok()?;
         Some(Card {
             revision: u32::from_be_bytes([a, b, c, d]),
             unit,

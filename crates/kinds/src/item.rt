@@ -53,30 +53,15 @@ impl Record for Item {
     fn from_bytes(bytes: [u8; 12]) -> Option<Item>
         ensures { result ≡ item_read bytes }
     {
-        let [tag, 0, 0, 0, a, b, c, d, 0, 0, 0, 0] = bytes else {
-            return None;
-        };
-        match tag {
-            0 => {
-                if u32::from_be_bytes([a, b, c, d]) == 0 {
-                    Some(Item::Withdrawn)
-                } else {
-                    None
-                }
-            }
-            1 => Some(Item::Solid {
+        match bytes {
+            [0, 0, 0, 0, 0, 0, 0, 0, 0, 0, 0, 0] => Some(Item::Withdrawn),
+            [1, 0, 0, 0, a, b, c, d, 0, 0, 0, 0] => Some(Item::Solid {
                 shape: u32::from_be_bytes([a, b, c, d]),
             }),
-            2 => {
-                let count = u16::from_be_bytes([c, d]);
-                if count == 0 {
-                    None
-                } else {
-                    Some(Item::SubAssembly {
-                        part: u16::from_be_bytes([a, b]),
-                        count,
-                    })
-                }
+            [2, 0, 0, 0, p, q, m, n, 0, 0, 0, 0] => {
+                let part = u16::from_be_bytes([p, q]);
+                let count = u16::from_be_bytes([m, n]);
+                (count != 0).then_some(Item::SubAssembly { part, count })
             }
             _ => None,
         }

@@ -63,17 +63,8 @@ impl Stamp for VolumePage {
 
     // By volume, then by page.
     fn compare(self, other: VolumePage) -> Ordering {
-        let v = self.counted_volume();
-        let w = other.counted_volume();
-        let p = self.counted_page();
-        let q = other.counted_page();
-        if v < w || v == w && p < q {
-            Ordering::Less
-        } else if w < v || w == v && q < p {
-            Ordering::Greater
-        } else {
-            Ordering::Equal
-        }
+        let volumes = self.counted_volume().cmp(&other.counted_volume());
+        volumes.then(self.counted_page().cmp(&other.counted_page()))
     }
 
     fn least() -> VolumePage {
@@ -85,25 +76,17 @@ impl Stamp for VolumePage {
     fn pick(self, upper: Option<VolumePage>) -> Option<VolumePage>
         ensures { result ≡ volume_pick self upper }
     {
+        let volume = self.counted_volume();
         match upper {
-            None => {
-                let volume = self.counted_volume();
-                if volume < LAST {
-                    Some(VolumePage {
-                        volume: volume + 1,
-                        page: 0,
-                    })
-                } else {
-                    self.next()
-                }
+            None if volume < LAST => Some(VolumePage {
+                volume: volume + 1,
+                page: 0,
+            }),
+            None => self.next(),
+            Some(bound) => {
+                let next = self.next()?;
+                next.compare(bound).is_lt().then_some(next)
             }
-            Some(bound) => match self.next() {
-                None => None,
-                Some(s) => match s.compare(bound) {
-                    Ordering::Less => Some(s),
-                    _ => None,
-                },
-            },
         }
     }
 
@@ -120,10 +103,6 @@ impl Stamp for VolumePage {
         let [a, b, c, d, e, f, g, h] = bytes;
         let volume = u32::from_be_bytes([a, b, c, d]);
         let page = u32::from_be_bytes([e, f, g, h]);
-        if volume <= LAST && page <= LAST {
-            Some(VolumePage { volume, page })
-        } else {
-            None
-        }
+        (volume <= LAST && page <= LAST).then_some(VolumePage { volume, page })
     }
 }

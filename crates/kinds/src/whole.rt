@@ -35,15 +35,7 @@ impl Stamp for Whole {
     }
 
     fn compare(self, other: Whole) -> Ordering {
-        let a = self.counted();
-        let b = other.counted();
-        if a < b {
-            Ordering::Less
-        } else if b < a {
-            Ordering::Greater
-        } else {
-            Ordering::Equal
-        }
+        self.counted().cmp(&other.counted())
     }
 
     fn least() -> Whole {
@@ -56,26 +48,14 @@ impl Stamp for Whole {
         ensures { result ≡ whole_pick self upper }
     {
         let lower = self.counted();
-        match upper {
-            None => {
-                if lower < LAST {
-                    Some(Whole {
-                        place: (lower + STEP).min(LAST),
-                    })
-                } else {
-                    None
-                }
-            }
-            Some(bound) => {
-                let bound = bound.counted();
-                if lower + 1 < bound {
-                    Some(Whole {
-                        place: lower + (bound - lower) / 2,
-                    })
-                } else {
-                    None
-                }
-            }
+        match upper.map(Whole::counted) {
+            None if lower < LAST => Some(Whole {
+                place: (lower + STEP).min(LAST),
+            }),
+            Some(bound) if lower + 1 < bound => Some(Whole {
+                place: lower + (bound - lower) / 2,
+            }),
+            _ => None,
         }
     }
 
@@ -88,10 +68,6 @@ impl Stamp for Whole {
         ensures { result ≡ whole_read bytes }
     {
         let place = u64::from_be_bytes(bytes);
-        if place <= LAST {
-            Some(Whole { place })
-        } else {
-            None
-        }
+        (place <= LAST).then_some(Whole { place })
     }
 }

@@ -1,5 +1,5 @@
 // The generic functions, also of contents that count alike.
-use kinds::bounds::{earlier, later, same};
+use kinds::bounds::{before, earlier, later, same};
 use kinds::card::{Card, Unit};
 use kinds::item::Item;
 use kinds::value::same_value;
@@ -11,6 +11,21 @@ const LAST: u64 = 0x3fff_ffff_ffff_ffff;
 const OVER: u64 = 0x4000_0000_0000_0000;
 
 const MOST: u64 = 0xffff_ffff_ffff_ffff;
+
+// Of two that are the same, neither.
+#[test]
+fn before_of_two(rt: HostRuntime) {
+    for (a, b, expected) in [
+        (5, 7, true),
+        (7, 5, false),
+        (5, 5, false),
+        (LAST - 1, MOST, true),
+        (LAST, OVER, false),
+        (OVER, LAST, false),
+    ] {
+        assert_eq!(rt; before(Whole { place: a }, Whole { place: b }), expected);
+    }
+}
 
 // Of two that are the same, the first.
 #[test]

@@ -1,16 +1,15 @@
 // Items: each case both ways, the count that counts as 1, and what is no form.
-use crate::tables::{no_records, record_form};
+use crate::tables::is_form;
 use kinds::item::Item;
 use kinds::value::Record;
 use std::test::Fail;
 
 // The numbers in an item: its tag, and the two that its case may hold.
-fn item_numbers(item: Option<Item>) -> Option<(u8, u32, u16)> {
+fn item_numbers(item: Item) -> (u8, u32, u16) {
     match item {
-        Some(Item::Withdrawn) => Some((0, 0, 0)),
-        Some(Item::Solid { shape }) => Some((1, shape, 0)),
-        Some(Item::SubAssembly { part, count }) => Some((2, u32::from(part), count)),
-        None => None,
+        Item::Withdrawn => (0, 0, 0),
+        Item::Solid { shape } => (1, shape, 0),
+        Item::SubAssembly { part, count } => (2, u32::from(part), count),
     }
 }
 
@@ -73,16 +72,17 @@ fn item_forms(rt: HostRuntime) -> Result<(), Fail> {
             (2, 65_535, 65_535),
         ),
     ] {
-        record_form(item, bytes)?;
-        assert_eq!(rt; item_numbers(Item::from_bytes(bytes)), Some(read));
+        let back = Item::from_bytes(bytes);
+        is_form(bytes, item.to_bytes(), back.map(Item::to_bytes))?;
+        assert_eq!(rt; back.map(item_numbers), Some(read));
     }
     Ok(())
 }
 
 // A tag above 2, data of a withdrawn item, and a sub-assembly that is counted 0 times.
 #[test]
-fn item_no_forms() -> Result<(), Fail> {
-    no_records::<Item>(&[
+fn item_no_forms(rt: HostRuntime) {
+    for bytes in [
         [3, 0, 0, 0, 0, 0, 0, 1, 0, 0, 0, 0],
         [255, 0, 0, 0, 0, 0, 0, 1, 0, 0, 0, 0],
         [0, 0, 0, 0, 1, 0, 0, 0, 0, 0, 0, 0],
@@ -91,7 +91,9 @@ fn item_no_forms() -> Result<(), Fail> {
         [0, 0, 0, 0, 0, 0, 0, 1, 0, 0, 0, 0],
         [2, 0, 0, 0, 0, 0, 0, 0, 0, 0, 0, 0],
         [2, 0, 0, 0, 255, 255, 0, 0, 0, 0, 0, 0],
-    ])
+    ] {
+        assert!(rt; Item::from_bytes(bytes).is_none());
+    }
 }
 
 // Each case with each of its seven zero bytes, those beside the tag and the data, set to 1.

@@ -1,6 +1,5 @@
-// What a row of a table asks of any stamp kind and of any record kind.
+// What a row of a table asks of any stamp kind, and of any written form.
 use kinds::stamp::Stamp;
-use kinds::value::Record;
 use std::test::Fail;
 
 // Stamps that are listed from the earliest on: each two compare as their places in the list do.
@@ -15,46 +14,18 @@ pub fn in_order<S: Stamp>(stamps: &[S]) -> Result<(), Fail> {
     Ok(())
 }
 
-// The stamp is written as these bytes, and they are read as a stamp that is written so again.
-pub fn stamp_form<S: Stamp>(stamp: S, bytes: [u8; 8]) -> Result<(), Fail> {
-    if stamp.to_bytes() != bytes {
-        return Err(Fail::new("a stamp is written otherwise"));
+// A stamp or value is written as these bytes, and what they are read as is written so again.
+pub fn is_form<const N: usize>(
+    bytes: [u8; N],
+    written: [u8; N],
+    again: Option<[u8; N]>,
+) -> Result<(), Fail> {
+    if written != bytes {
+        return Err(Fail::new("it is written otherwise"));
     }
-    match S::from_bytes(bytes) {
-        Some(read) if read.to_bytes() == bytes => Ok(()),
+    match again {
+        Some(again) if again == bytes => Ok(()),
         Some(_) => Err(Fail::new("what is read is written otherwise")),
-        None => Err(Fail::new("a written stamp is no form")),
+        None => Err(Fail::new("a written form is no form")),
     }
-}
-
-// The value is written as these bytes, and they are read as a value that is written so again.
-pub fn record_form<R: Record>(value: R, bytes: [u8; 12]) -> Result<(), Fail> {
-    if value.to_bytes() != bytes {
-        return Err(Fail::new("a value is written otherwise"));
-    }
-    match R::from_bytes(bytes) {
-        Some(read) if read.to_bytes() == bytes => Ok(()),
-        Some(_) => Err(Fail::new("what is read is written otherwise")),
-        None => Err(Fail::new("a written value is no form")),
-    }
-}
-
-// None of the rows is a form of the kind.
-pub fn no_stamps<S: Stamp>(rows: &[[u8; 8]]) -> Result<(), Fail> {
-    for bytes in rows {
-        if S::from_bytes(*bytes).is_some() {
-            return Err(Fail::new("what is no form is read"));
-        }
-    }
-    Ok(())
-}
-
-// None of the rows is a form of the kind.
-pub fn no_records<R: Record>(rows: &[[u8; 12]]) -> Result<(), Fail> {
-    for bytes in rows {
-        if R::from_bytes(*bytes).is_some() {
-            return Err(Fail::new("what is no form is read"));
-        }
-    }
-    Ok(())
 }

@@ -1,5 +1,5 @@
 // Stamps of volume and page at and around their bounds.
-use crate::tables::{in_order, no_stamps, stamp_form};
+use crate::tables::{in_order, is_form};
 use kinds::stamp::Stamp;
 use kinds::volume::VolumePage;
 use std::test::Fail;
@@ -8,18 +8,8 @@ fn at(volume: u32, page: u32) -> VolumePage {
     VolumePage { volume, page }
 }
 
-fn volume_bound(upper: Option<(u32, u32)>) -> Option<VolumePage> {
-    match upper {
-        Some((volume, page)) => Some(VolumePage { volume, page }),
-        None => None,
-    }
-}
-
-fn numbers(stamp: Option<VolumePage>) -> Option<(u32, u32)> {
-    match stamp {
-        Some(s) => Some((s.volume, s.page)),
-        None => None,
-    }
+fn numbers(stamp: VolumePage) -> (u32, u32) {
+    (stamp.volume, stamp.page)
 }
 
 // By volume first, and then by page.
@@ -66,7 +56,7 @@ fn volume_next(rt: HostRuntime) {
         (9_999, 9_999, None),
         (10_000, 10_000, None),
     ] {
-        assert_eq!(rt; numbers(at(volume, page).next()), expected);
+        assert_eq!(rt; at(volume, page).next().map(numbers), expected);
     }
 }
 
@@ -93,10 +83,8 @@ fn volume_picks(rt: HostRuntime) {
         ((9_999, 9_999), None, None),
         ((9_999, 10_000), None, None),
     ] {
-        assert_eq!(rt;
-            numbers(at(volume, page).pick(volume_bound(upper))),
-            expected
-        );
+        let upper = upper.map(|(v, p)| at(v, p));
+        assert_eq!(rt; at(volume, page).pick(upper).map(numbers), expected);
     }
 }
 
@@ -117,9 +105,14 @@ fn volume_forms(rt: HostRuntime) -> Result<(), Fail> {
             [0, 0, 0x27, 0x0f, 0, 0, 0x27, 0x0f],
         ),
     ] {
-        stamp_form(at(volume, page), bytes)?;
+        let read = VolumePage::from_bytes(bytes);
+        is_form(
+            bytes,
+            at(volume, page).to_bytes(),
+            read.map(VolumePage::to_bytes),
+        )?;
         assert_eq!(rt;
-            numbers(VolumePage::from_bytes(bytes)),
+            read.map(numbers),
             Some((volume.min(9_999), page.min(9_999)))
         );
     }
@@ -128,13 +121,15 @@ fn volume_forms(rt: HostRuntime) -> Result<(), Fail> {
 
 // 10,000 is 0x2710.
 #[test]
-fn volume_no_forms() -> Result<(), Fail> {
-    no_stamps::<VolumePage>(&[
+fn volume_no_forms(rt: HostRuntime) {
+    for bytes in [
         [0, 0, 0x27, 0x10, 0, 0, 0, 0],
         [0, 0, 0, 0, 0, 0, 0x27, 0x10],
         [0, 0, 0x27, 0x10, 0, 0, 0x27, 0x10],
         [1, 0, 0, 0, 0, 0, 0, 0],
         [0, 0, 0, 0, 1, 0, 0, 0],
         [255, 255, 255, 255, 255, 255, 255, 255],
-    ])
+    ] {
+        assert!(rt; VolumePage::from_bytes(bytes).is_none());
+    }
 }

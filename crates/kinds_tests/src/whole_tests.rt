@@ -1,5 +1,5 @@
 // Whole stamps at and around their bounds.
-use crate::tables::{in_order, no_stamps, stamp_form};
+use crate::tables::{in_order, is_form};
 use kinds::stamp::Stamp;
 use kinds::whole::Whole;
 use std::test::Fail;
@@ -15,18 +15,8 @@ fn whole(place: u64) -> Whole {
     Whole { place }
 }
 
-fn whole_bound(upper: Option<u64>) -> Option<Whole> {
-    match upper {
-        Some(place) => Some(Whole { place }),
-        None => None,
-    }
-}
-
-fn place(stamp: Option<Whole>) -> Option<u64> {
-    match stamp {
-        Some(w) => Some(w.place),
-        None => None,
-    }
+fn place(stamp: Whole) -> u64 {
+    stamp.place
 }
 
 #[test]
@@ -81,7 +71,7 @@ fn whole_picks(rt: HostRuntime) {
         (OVER, None, None),
         (MOST, None, None),
     ] {
-        assert_eq!(rt; place(whole(lower).pick(whole_bound(upper))), expected);
+        assert_eq!(rt; whole(lower).pick(upper.map(whole)).map(place), expected);
     }
 }
 
@@ -98,18 +88,21 @@ fn whole_forms(rt: HostRuntime) -> Result<(), Fail> {
         (OVER, [0x3f, 255, 255, 255, 255, 255, 255, 255]),
         (MOST, [0x3f, 255, 255, 255, 255, 255, 255, 255]),
     ] {
-        stamp_form(whole(content), bytes)?;
-        assert_eq!(rt; place(Whole::from_bytes(bytes)), Some(content.min(LAST)));
+        let read = Whole::from_bytes(bytes);
+        is_form(bytes, whole(content).to_bytes(), read.map(Whole::to_bytes))?;
+        assert_eq!(rt; read.map(place), Some(content.min(LAST)));
     }
     Ok(())
 }
 
 #[test]
-fn whole_no_forms() -> Result<(), Fail> {
-    no_stamps::<Whole>(&[
+fn whole_no_forms(rt: HostRuntime) {
+    for bytes in [
         [0x40, 0, 0, 0, 0, 0, 0, 0],
         [0x40, 0, 0, 0, 0, 0, 0, 1],
         [0x80, 0, 0, 0, 0, 0, 0, 0],
         [255, 255, 255, 255, 255, 255, 255, 255],
-    ])
+    ] {
+        assert!(rt; Whole::from_bytes(bytes).is_none());
+    }
 }
