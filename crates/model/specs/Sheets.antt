@@ -1,5 +1,6 @@
 -- Sheets: the entries of a job, by record number.
-use Rattle.std.specs.Prelude.{ℕ, Bool, true, false, cond, not, ◌||◌, List, [], ◌∷◌, Some, None, Option, ◌==◌, nat_lt}
+use Rattle.std.specs.Prelude.{ℕ, Bool, true, false, cond, not, List, [], ◌∷◌, Some, None, Option, ◌==◌, nat_lt}
+use Rattle.std.specs.List.{list_any}
 use Rattle.model.specs.declared.entry.Entry.{Entry}
 use Rattle.model.specs.declared.image.ImageRow.{ImageRow}
 
@@ -34,5 +35,4 @@ module _ {S R : Type 0} where
 
   -- some record number is not below n
   abbrev pub beyond : ℕ → List (Entry S R) → Bool
-  beyond n [] = false
-  beyond n (e ∷ es) = not (nat_lt e.number n) || beyond n es
+  beyond n es = list_any (λ e. not (nat_lt e.number n)) es

@@ -2,22 +2,31 @@
 ghost use Rattle.std.specs.Prelude.{◌≡◌};
 ghost use Rattle.model.specs.Refusals.{refusal_number};
 
-// Why a call was refused. A refused call alters nothing.
-#[derive(Clone, Copy)]
+// Why a call was refused, each with its number. A refused call alters nothing.
+#[derive(Clone, Copy, Debug, PartialEq, Eq)]
 pub enum Refusal {
-    WrongTables,
-    JobShut,
-    OtherImage,
-    NotNextImage,
-    NoSuchRecord,
-    SheetFull,
-    NoRoom,
-    QueueFull,
-    NoneWaiting,
-    JournalFull,
-    OutcomesFull,
-    NotInImage,
-    CountEnded,
+    WrongTables = 1,
+    JobShut = 2,
+    OtherImage = 3,
+    NotNextImage = 4,
+    NoSuchRecord = 5,
+    SheetFull = 6,
+    NoRoom = 7,
+    QueueFull = 8,
+    NoneWaiting = 9,
+    JournalFull = 10,
+    OutcomesFull = 11,
+    NotInImage = 12,
+    CountEnded = 13,
+}
+
+// The number of a refusal.
+impl From<Refusal> for u8 {
+    ghost from_gives = { λ refusal n. n ≡ refusal_number refusal };
+
+    fn from(refusal: Refusal) -> u8 {
+        refusal as u8
+    }
 }
 
 impl Refusal {
@@ -25,20 +34,6 @@ impl Refusal {
     pub fn number(self) -> u8
         ensures { result ≡ refusal_number self }
     {
-        match self {
-            Refusal::WrongTables => 1,
-            Refusal::JobShut => 2,
-            Refusal::OtherImage => 3,
-            Refusal::NotNextImage => 4,
-            Refusal::NoSuchRecord => 5,
-            Refusal::SheetFull => 6,
-            Refusal::NoRoom => 7,
-            Refusal::QueueFull => 8,
-            Refusal::NoneWaiting => 9,
-            Refusal::JournalFull => 10,
-            Refusal::OutcomesFull => 11,
-            Refusal::NotInImage => 12,
-            Refusal::CountEnded => 13,
-        }
+        u8::from(self)
     }
 }

@@ -1,6 +1,7 @@
 // Verdicts and outcomes.
 
-// What the registrar decides on a submission. An accepted job has its stamp.
+// What the registrar decides on a submission. An accepted job has its stamp. The three others are verdicts
+// and no errors, so this is no `Result`.
 #[derive(Clone, Copy)]
 pub enum Verdict<S> {
     Accepted { stamp: S },
