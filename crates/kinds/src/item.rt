@@ -14,7 +14,7 @@ pub enum Item {
 }
 
 impl Item {
-    // The number of a case in an item's form.
+    // The number of a case in an item's form. It leaves the data out, so it is no conversion.
     pub fn tag(self) -> u8
         ensures { result ≡ item_tag self }
     {

@@ -7,7 +7,8 @@ ghost use Rattle.kinds.specs.Values.{RecordKind, Written, SameValue};
 pub trait Record: Copy {
     ghost kind: { RecordKind Self };
 
-    // The number of the kind, as an archive's heading has it.
+    // The number of the kind, as an archive's heading has it. Kinds are types, and users add more, so no enum
+    // lists them.
     fn number() -> u8
         ensures { result ≡ kind.number };
 
@@ -22,7 +23,7 @@ pub trait Record: Copy {
     ghost written: { Written kind };
 }
 
-// Whether two contents are the same value.
+// Whether two contents are the same value. A derived `==` would tell contents apart that count alike.
 pub fn same_value<R: Record>(a: R, b: R) -> bool
     ensures told { result ≡ true → SameValue R.Record.kind a b }
     ensures law { SameValue R.Record.kind a b → result ≡ true }
