@@ -20,7 +20,8 @@ use Rattle.law.proofs.Members.{In}
 use Rattle.law.proofs.Sizes.{sizes, sized_cleared}
 use Rattle.law.proofs.Queues.{queue_kept}
 use Rattle.law.proofs.Journals.{journal_same}
-use Rattle.law.proofs.RowLaws.{nth_inside, length-shown}
+use Rattle.std.proofs.lemmas.Option.{slice_get_within}
+use Rattle.law.proofs.RowLaws.{length-shown}
 use Rattle.law.proofs.History.{Since, RowOk}
 use Rattle.law.proofs.Jobs.{EntryOk, row_stood}
 use Rattle.law.proofs.Acceptance.{top_at, older_at, stood_at, first_at}
@@ -88,7 +89,7 @@ module _ {S R : Type 0} (k : Kind S) (laws : Lawful k) (values : List R) (d : De
   either : (n : ℕ) (m : Image S R) → slice_get images n ≡ Some m → (slice_get d.images n ≡ Some m) ⊎ ((n ≡ length d.images) × (m ≡ fresh))
   either n m e =
       ⊎_elim (λ q. inr (q, some_inj (sym e ∙ ap (slice_get images) q ∙ nth_back d.images fresh)))
-      (λ q. let l = nth_inside images n m e in let w = more in inl (sym (nth_front d.images fresh n (omega arith)) ∙ e))
+      (λ q. let l = slice_get_within images n m e in let w = more in inl (sym (nth_front d.images fresh n (omega arith)) ∙ e))
       (cases_eq n (length d.images))
 
   -- what an entry keeps, it keeps where the image shows the same
@@ -162,7 +163,7 @@ module _ {S R : Type 0} (k : Kind S) (laws : Lawful k) (values : List R) (d : De
 
       old_since : (n : ℕ) (m : Image S R) (x : ℕ) → slice_get d.images n ≡ Some m → Since k.order b.accepted x (top_at k.order g.rows x) (shown_in k.order values images n x) (option_map row_stood (slice_get m.rows x)) (first_write m x)
       old_since n m x e =
-          let l = nth_inside d.images n m e in
+          let l = slice_get_within d.images n m e in
           subst (λ (z : Option (Stood S R)). Since k.order b.accepted x (top_at k.order g.rows x) z (option_map row_stood (slice_get m.rows x)) (first_write m x)) (sym (shown_before n (omega arith) x)) (h.image_since n m e x)
 
       last_since : (x : ℕ) → Since k.order b.accepted x (top_at k.order g.rows x) (shown_in k.order values images (length d.images) x) (option_map row_stood (slice_get fresh.rows x)) (first_write fresh x)

@@ -20,7 +20,7 @@ use Rattle.law.proofs.History.{Since}
 use Rattle.law.proofs.Jobs.{row_stood}
 use Rattle.law.proofs.AtStations.{Kept, LookKept, look_kept, PutKept, put_kept, TuneKept, tune_kept}
 use Rattle.law.proofs.Acceptance.{top_at}
-use Rattle.law.proofs.RowLaws.{nth_inside}
+use Rattle.std.proofs.lemmas.Option.{slice_get_within}
 use Rattle.law.proofs.Invariant.{shown_by, shown_in, StationOk, Inv, reseat, leaf_here, leaf_there, Back, back}
 
 module _ {S R : Type 0} (k : Kind S) (laws : Lawful k) (values : List R) (d : Desk S R) (b : Daybook S R) (h : Inv k values d b) where
@@ -53,7 +53,7 @@ module _ {S R : Type 0} (k : Kind S) (laws : Lawful k) (values : List R) (d : De
   published zero i e = absurd (some_none (sym e))
   published (suc n) i e =
       let ok = h.images_ok n i e in
-      let l = nth_inside d.images n i e in
+      let l = slice_get_within d.images n i e in
       record {
         numbered = ok.numbered;
         within = omega arith;

@@ -23,7 +23,7 @@ use Rattle.law.proofs.Leaves.{line_if, put_again_line, put_new_line, look_line, 
 use Rattle.law.proofs.Plays.{Origin}
 use Rattle.law.proofs.History.{Passed, Since, passed_under}
 use Rattle.law.proofs.Bounds.{upper_old, upper_new, lower_over}
-use Rattle.law.proofs.RowLaws.{nth_inside}
+use Rattle.std.proofs.lemmas.Option.{slice_get_within}
 use Rattle.law.proofs.Jobs.{refused_none, row_stood, Closed, EntryOk, HasPlace, JobOk, sheet_lower, sheet-put_on, numbers-put_on, length-put_on, put_on_distinct, closed_length, closed_number, closed_distinct}
 
 pub not_ok : {A C : Type 0} {r : Refusal} {v : A} → Err r ≡ Ok v → C
@@ -66,7 +66,7 @@ module _ {S R : Type 0} (k : Kind S) (laws : Lawful k) (values : List R) (jobs :
     push_grows e = simp length-append (omega arith)
 
     inside_row : (x : ℕ) (row : ImageRow S R) → slice_get i.rows x ≡ Some row → x < length values
-    inside_row x row e = let l = nth_inside i.rows x row e in omega arith
+    inside_row x row e = let l = slice_get_within i.rows x row e in omega arith
 
     -- look
     look_new_kept : (x : ℕ) (row : ImageRow S R) → i.number ≡ w.image → slice_get i.rows x ≡ Some row → find x w.entries ≡ None → sheet_room w ≡ None → (p : Option S) → k.pick (look_lower k w row) w.upper ≡ p → Kept w (if_room p w (record { answer = Ok row.value; work = bounded_below w (look_lower k w row) (w.entries ++ (looked x row ∷ [])) }))

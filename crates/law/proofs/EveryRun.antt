@@ -14,9 +14,10 @@ use Rattle.law.specs.Daybook.{Daybook, AcceptedJob, with_leaf, line_put}
 use Rattle.law.specs.Account.{put_of, at_opening, played, SerialOrder, Accounted, StampOrderAccounts}
 use Rattle.law.specs.Runs.{Call, opens, looks, puts, tunes, submits, decides, publishes, Desk, image_numbered, given, standing_at, after_call, after_submit, shown, done, stands, is_done, shown_of, ticket_of, write_given, noted, laid_if, Run, next, run, start}
 use Rattle.law.proofs.StampOrder.{some_none, some_inj, Le, not_both}
-use Rattle.law.proofs.Members.{In, in_none, in_arranged, turned}
+use Rattle.law.proofs.Members.{In, in_none, in_arranged}
 use Rattle.law.proofs.Sizes.{tables, sizes, sized_founded}
-use Rattle.law.proofs.RowLaws.{nth_some, nth_inside, founded_from, founded_stands}
+use Rattle.std.proofs.lemmas.Option.{slice_get_within}
+use Rattle.law.proofs.RowLaws.{nth_some, founded_from, founded_stands}
 use Rattle.law.proofs.Plays.{borne_out, ends_at, untouched}
 use Rattle.law.proofs.History.{Since, Versions, RowOk}
 use Rattle.law.proofs.AtStations.{not_ok}
@@ -130,7 +131,7 @@ module _ {S R : Type 0} (k : Kind S) (laws : Lawful k) (values : List R) (d : De
       by : (p : Option R) → slice_get values x ≡ p → p ≡ None
       by None q = refl
       by (Some v) q =
-          let l = nth_inside values x v q in
+          let l = slice_get_within values x v q in
           let z = (sizes d.registry h.sized).rows in
           let n = h.records in
           absurd (some_none (sym (nth_some d.registry.rows x (omega arith)).1 ∙ e))
@@ -151,7 +152,7 @@ module _ {S R : Type 0} (k : Kind S) (laws : Lawful k) (values : List R) (d : De
     where
       by : (p : Option (Row S R)) → slice_get d.registry.rows x ≡ p → played (at_opening k.order values) order x ≡ option_map stood p
       by None e =
-          untouched order x (λ a m. no_put_past x e a (in_arranged (turned r.same_jobs) m)) (at_opening k.order values) ∙ opening_none x e
+          untouched order x (λ a m. no_put_past x e a (in_arranged (Permᴰ.symm r.same_jobs) m)) (at_opening k.order values) ∙ opening_none x e
       by (Some t) e =
           ends_at k.order laws.ordered values b.accepted order h.sound r x (stood t)
           (λ a m v q. subst (λ (z : Option (Row S R)). Le k.order a.stamp (top_in k.order z)) e ((h.rows_ok.row x).last (record { value = v; stamp = a.stamp }) (record { job = a; member = m; puts = q; stamps = refl })))

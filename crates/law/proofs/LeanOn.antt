@@ -1,4 +1,5 @@
 -- What users lean on holds after every run.
+use mathlib.Core.List.Permᴰ
 use Rattle.std.proofs.Common.{◌≡◌, ℕ, suc, ◌<◌, ◌≤◌, Bool, true, false, ◌≢◌, ◌⊎◌, List, [], ◌∷◌, map, length, is_some, Some, None, Option, sym, refl, ap, ◌∙◌, subst, inl, inr, ⊎_elim, arith}
 use Rattle.std.specs.List.{AllByRecursion}
 use Rattle.std.proofs.lemmas.Bool.{false≢true}
@@ -11,7 +12,7 @@ use Rattle.station.specs.Station.{is_shut}
 use Rattle.law.specs.Daybook.{Look, Put, Daybook, AcceptedJob, when, look_first, put_first, looks_of, puts_of, journal_of}
 use Rattle.law.specs.Runs.{Desk, start}
 use Rattle.law.specs.Promises.{Pairwise, look_numbers, put_numbers, StandsIn, NeatJob, Rising, KeptPromises, PromisesKept}
-use Rattle.law.proofs.Members.{In, all_in, in_all, in_arranged, turned, Pairs, pairs_arranged}
+use Rattle.law.proofs.Members.{In, all_in, in_all, in_arranged, Pairs, pairs_arranged}
 use Rattle.law.proofs.Views.{leaf, Distinct}
 use Rattle.law.proofs.Acceptance.{top_in, older_in}
 use Rattle.law.proofs.Invariant.{Inv}
@@ -95,7 +96,7 @@ module _ {S R : Type 0} where
 
 module _ {S R : Type 0} (k : Kind S) (laws : Lawful k) (values : List R) (d : Desk S R) (b : Daybook S R) (h : Inv k values d b) (q : Keeps k.order values d.registry b.accepted) where
   in_accepted : (a : AcceptedJob S R) → In a (journal_of d.registry) → In a b.accepted
-  in_accepted a m = in_arranged (turned h.journal.serial.same_jobs) m
+  in_accepted a m = in_arranged (Permᴰ.symm h.journal.serial.same_jobs) m
 
   unequal : {a c : ℕ} → (a < c) ⊎ (c < a) → a ≢ c
   unequal (inl l) e = omega arith

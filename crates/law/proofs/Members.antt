@@ -1,6 +1,7 @@
 -- Membership, lists whose members stand in a relation two by two, and arrangements.
 use Rattle.std.proofs.Common.{◌≡◌, ◌⊎◌, List, [], ◌∷◌, ◌++◌, sym, refl, ◌∙◌, subst, inl, inr, ⊎_elim}
 use mathlib.Core.List.{Memᴰ, Permᴰ}
+use mathlib.Core.List.Permᴰ
 use Rattle.std.specs.List.{AllByRecursion}
 
 abbrev pub In : {A : Type 0} → A → List A → Type 0
@@ -50,12 +51,6 @@ in_arranged (Permᴰ.swap e f) (Memᴰ.tail (Memᴰ.head g)) = Memᴰ.head (g �
 in_arranged (Permᴰ.swap e f) (Memᴰ.tail (Memᴰ.tail m)) = Memᴰ.tail (Memᴰ.tail m)
 in_arranged (Permᴰ.trans p q) m = in_arranged q (in_arranged p m)
 
-pub turned : {A : Type 0} {xs ys : List A} → Permᴰ xs ys → Permᴰ ys xs
-turned Permᴰ.nil = Permᴰ.nil
-turned (Permᴰ.cons e p) = Permᴰ.cons (sym e) (turned p)
-turned (Permᴰ.swap e f) = Permᴰ.swap (sym f) (sym e)
-turned (Permᴰ.trans p q) = Permᴰ.trans (turned q) (turned p)
-
 -- each member with each that stands behind it
 abbrev pub Pairs : {A : Type 0} → (A → A → Type 0) → List A → Type 0
 Pairs R [] = Unit {0}
@@ -64,7 +59,7 @@ Pairs {A} R (x ∷ xs) = ((y : A) → In y xs → R x y) × Pairs R xs
 module _ {A : Type 0} (R : A → A → Type 0) (flip : (x y : A) → R x y → R y x) where
   pub pairs_arranged : {xs ys : List A} → Permᴰ xs ys → Pairs R xs → Pairs R ys
   pairs_arranged Permᴰ.nil h = h
-  pairs_arranged (Permᴰ.cons e p) h = (λ y m. subst (λ (z : A). R z y) e (h.0 y (in_arranged (turned p) m)), pairs_arranged p h.1)
+  pairs_arranged (Permᴰ.cons e p) h = (λ y m. subst (λ (z : A). R z y) e (h.0 y (in_arranged (Permᴰ.symm p) m)), pairs_arranged p h.1)
   pairs_arranged (Permᴰ.swap {a} {b} {a'} {b'} {l} e f) h = (first, (λ y m. subst (λ (z : A). R z y) e (h.0 y (there m)), h.1.1))
     where
       first : (y : A) → In y (b' ∷ l) → R a' y

@@ -1,6 +1,7 @@
 -- From what holds of the accepted jobs to the play, in every serial order.
 use Rattle.std.proofs.Common.{◌≡◌, ℕ, ◌⊎◌, List, [], ◌∷◌, Some, None, Option, sym, refl, ap, ◌∙◌, subst, inl, inr, ⊎_elim}
 use mathlib.Core.List.{Permᴰ}
+use mathlib.Core.List.Permᴰ
 use Rattle.std.specs.Option.{option_map}
 use Rattle.std.specs.List.{slice_get}
 use Rattle.kinds.specs.Stamps.{Order, Ordered}
@@ -8,7 +9,7 @@ use Rattle.model.specs.Rows.{Stood}
 use Rattle.law.specs.Daybook.{Look, AcceptedJob}
 use Rattle.law.specs.Account.{StandingAt, put_of, under, after_job, played, BorneOut, NeverFalls, SerialOrder, at_opening}
 use Rattle.law.proofs.StampOrder.{some_none, some_inj, Lt, Le, not_both, le_refl}
-use Rattle.law.proofs.Members.{In, in_none, in_cons, here, there, all_in, in_all, in_arranged, turned, Pairs, pairs_arranged}
+use Rattle.law.proofs.Members.{In, in_none, in_cons, here, there, all_in, in_all, in_arranged, Pairs, pairs_arranged}
 
 module _ {S R : Type 0} (o : Order S) where
   -- of two jobs: they do not put one record under one stamp, and a put of the second at a record that the first saw is
@@ -54,9 +55,9 @@ module _ {S R : Type 0} (o : Order S) (values : List R) where
   sound_arranged {jobs} {order} p s =
       record {
         pairs = pairs_arranged (FairBoth o) (λ a b h. (h.1, h.0)) p s.pairs;
-        origin = λ d m l n. origin_in jobs order l.number l.saw (λ e k. in_arranged p k) (s.origin d (in_arranged (turned p) m) l n);
-        after = λ d m. s.after d (in_arranged (turned p) m);
-        risen = λ d m. s.risen d (in_arranged (turned p) m);
+        origin = λ d m l n. origin_in jobs order l.number l.saw (λ e k. in_arranged p k) (s.origin d (in_arranged (Permᴰ.symm p) m) l n);
+        after = λ d m. s.after d (in_arranged (Permᴰ.symm p) m);
+        risen = λ d m. s.risen d (in_arranged (Permᴰ.symm p) m);
       }
 
   -- what stands at x after the jobs of a list, the newest first
@@ -183,7 +184,7 @@ module _ {S R : Type 0} (o : Order S) (laws : Ordered o) (values : List R) where
   pub ends_at : (accepted order : List (AcceptedJob S R)) → Sound o values accepted → SerialOrder o accepted order → (x : ℕ) (w : Stood S R) → ((d : AcceptedJob S R) → In d accepted → (v : R) → put_of x d.puts ≡ Some v → Le o d.stamp w.stamp) → Origin o values accepted x w → played (at_opening o values) order x ≡ Some w
   ends_at accepted order s r x w low origin =
       let t = sound_arranged o values r.same_jobs s in
-      ends_from order t x w (λ d m. low d (in_arranged (turned r.same_jobs) m)) (origin_in o values accepted order x w (λ e k. in_arranged r.same_jobs k) origin)
+      ends_from order t x w (λ d m. low d (in_arranged (Permᴰ.symm r.same_jobs) m)) (origin_in o values accepted order x w (λ e k. in_arranged r.same_jobs k) origin)
       [] order (cut_start order t r.never_falls)
 
 -- a record that no job puts stays as it was

@@ -62,11 +62,6 @@ module _ {A : Type 0} where
   nth_some (a ∷ xs) zero h = (a, refl)
   nth_some (a ∷ xs) (suc x) h = nth_some xs x (le_of_suc-le-suc h)
 
-  pub nth_inside : (xs : List A) (x : ℕ) (a : A) → slice_get xs x ≡ Some a → x < length xs
-  nth_inside [] x a e = let z : ◌≡◌ {A = ℕ} 0 1 = cc in omega arith
-  nth_inside (b ∷ xs) zero a e = suc-le-suc zero-le
-  nth_inside (b ∷ xs) (suc x) a e = suc-le-suc (nth_inside xs x a e)
-
   pub nth-set : (xs : List A) (i x : ℕ) (v : A) → slice_get (set xs i v) x ≡ cond (eqb x i) (option_map (λ _. v) (slice_get xs x)) (slice_get xs x)
   nth-set [] i x v = go (eqb x i)
     where
