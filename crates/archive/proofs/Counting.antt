@@ -1,11 +1,46 @@
 -- One turn of a loop over so many places.
-use Rattle.std.proofs.Common.{◌≡◌, ℕ, suc, ◌+◌, ◌-◌, ◌*◌, ◌<◌, ◌≤◌, eqb, List, Ok, Err, Result, sym, ap, ◌∙◌, mul-suc, arith}
+use Rattle.std.proofs.Common.{◌≡◌, ℕ, zero, suc, ◌+◌, ◌-◌, ◌*◌, ◌<◌, ◌≤◌, eqb, List, Ok, Err, Result, sym, ap, ◌∙◌, mul-suc, mul-zero, arith}
 use Rattle.std.proofs.lemmas.Bool.Decides.{nat_tests}
 use Rattle.kinds.specs.Forms.{Form}
 use Rattle.archive.specs.declared.fault.Fault.{Fault}
 use Rattle.archive.specs.Faults.{onward}
 use Rattle.archive.specs.Directory.{read_pair, read_pairs}
 use Rattle.archive.specs.Values.{read_value, read_values}
+
+-- so many steps are left up to the end, of which this holds
+pub record Left (step here end : ℕ) (P : ℕ → Type 0) : Type 0 where
+  pub steps : ℕ
+  pub ends : here + step * steps ≡ end
+  pub holds : P steps
+
+-- a step more
+pub record More (step here end : ℕ) (P : ℕ → Type 0) : Type 0 where
+  pub after : ℕ
+  pub within : here + step + step * after ≡ end
+  pub held : P (suc after)
+
+pub more : {step here end : ℕ} {P : ℕ → Type 0} → Left step here end P → here < end → More step here end P
+more {step} {here} {end} {P} l h = by l.steps l.ends l.holds
+  where
+    by : (n : ℕ) → here + step * n ≡ end → P n → More step here end P
+    by zero e p = absurd (omega (arith, mul-zero step))
+    by (suc n) e p = record { after = n; within = omega (arith, mul-suc step n); held = p }
+
+-- no step more
+pub no_more : {step here end : ℕ} {P : ℕ → Type 0} → Left step here end P → 0 < step → end ≤ here → P 0
+no_more {step} {here} {end} {P} l s h = by l.steps l.ends l.holds
+  where
+    by : (n : ℕ) → here + step * n ≡ end → P n → P 0
+    by zero e p = p
+    by (suc n) e p = absurd (omega (arith, mul-suc step n))
+
+-- the last step
+pub last_step : {step here end : ℕ} {P : ℕ → Type 0} → More step here end P → 0 < step → end ≤ here + step → P 1
+last_step {step} {here} {end} {P} m s h = by m.after m.within m.held
+  where
+    by : (n : ℕ) → here + step + step * n ≡ end → P (suc n) → P 1
+    by zero e p = p
+    by (suc n) e p = absurd (omega (arith, mul-suc step n))
 
 -- what is left is one more than what is left after
 pub left : (n i : ℕ) → i < n → n - i ≡ suc (n - (i + 1))

@@ -1,6 +1,8 @@
 -- One turn of each loop that enters values.
-use Rattle.std.proofs.Common.{◌≡◌, ℕ, ◌+◌, ◌-◌, ◌*◌, ◌<◌, List, [], ◌∷◌, ◌++◌, length, take, set, Some, None, Ok, Option, sym, ap, ◌∙◌, arith}
-use Rattle.std.proofs.lemmas.List.{take_more_set, append_assoc}
+use Rattle.std.proofs.Common.{◌≡◌, ℕ, zero, suc, ◌+◌, ◌-◌, ◌*◌, ◌<◌, List, [], ◌∷◌, ◌++◌, length, take, drop, set, Some, None, Ok, Option, refl, sym, ap, ◌∙◌, arith}
+use Rattle.std.proofs.lemmas.List.{take_more_set, append_assoc, drop-drop, drop-take}
+use Rattle.std.specs.Prelude.{fold}
+use Rattle.std.specs.Simd.{first_chunks}
 use Rattle.std.specs.Option.{ok_or}
 use Rattle.kinds.specs.Bytes.{number2, part}
 use Rattle.kinds.specs.Forms.{Form}
@@ -8,8 +10,9 @@ use Rattle.archive.specs.declared.fault.Fault.TheVariants.{ValueWrong}
 use Rattle.archive.specs.Faults.{onward}
 use Rattle.archive.specs.Directory.{stated_length}
 use Rattle.archive.specs.Values.{read_value, read_values, value_first, stated_values}
-use Rattle.archive.specs.Played.{value_in, values_after, block_played, blocks_played}
+use Rattle.archive.specs.Played.{value_in, value_entered, values_after, block_played, blocks_played}
 use Rattle.archive.proofs.Counting.{at_left}
+use Rattle.archive.proofs.RowLaws.{row_number}
 
 module _ {R : Type 0} (f : Form R) (bs : List ℕ) where
   was_some : (at : ℕ) (v : R) (o : Option R) → Ok v ≡ ok_or o (ValueWrong at) → o ≡ Some v
@@ -32,13 +35,18 @@ module _ {R : Type 0} (f : Form R) (bs : List ℕ) where
       let a : at + 12 * i + 12 ≡ at + 12 * (i + 1) = omega arith in
       at_left (read_values f bs (at + 12 * i) 12) n i h ∙ ap (λ m. onward (read_value f bs (at + 12 * i)) (λ _. read_values f bs m 12 (n - (i + 1)))) a
 
-  pub values_on : (at : ℕ) (vs ws : List R) (n i x : ℕ) → i < n → x ≡ number2 (part bs (at + 14 * i) 2) → ws ≡ value_in (f.read (part bs (at + 14 * i + 2) 12)) vs x
-      → values_after f bs (at + 14 * (i + 1)) ws (n - (i + 1)) ≡ values_after f bs (at + 14 * i) vs (n - i)
-  values_on at vs ws n i x h e p =
-      let a : at + 14 * (i + 1) ≡ at + 14 * i + 14 = omega arith in
-      ap (λ m. values_after f bs m ws (n - (i + 1))) a
-      ∙ ap (λ us. values_after f bs (at + 14 * i + 14) us (n - (i + 1))) (p ∙ ap (value_in (f.read (part bs (at + 14 * i + 2) 12)) vs) e)
-      ∙ sym (at_left (values_after f bs (at + 14 * i) vs) n i h)
+  -- the puts of rows, entered in turn
+  pub values_entered : (m at : ℕ) (vs : List R) → fold (value_entered f) vs (first_chunks 14 m (drop at bs)) ≡ values_after f bs at vs m
+  values_entered zero at vs = refl
+  values_entered (suc m) at vs =
+      ap (λ xs. fold (value_entered f) (value_entered f vs (part bs at 14)) (first_chunks 14 m xs)) (drop-drop 14 at bs)
+      ∙ values_entered m (at + 14) (value_entered f vs (part bs at 14))
+      ∙ ap (λ t. values_after f bs (at + 14) t m) one
+    where
+      one : value_entered f vs (part bs at 14) ≡ value_in (f.read (part bs (at + 2) 12)) vs (number2 (part bs at 2))
+      one =
+          ap (λ v. value_in (f.read v) vs (number2 (part bs at 14))) (drop-take 2 12 (drop at bs) ∙ ap (take 12) (drop-drop 2 at bs))
+          ∙ ap (value_in (f.read (part bs (at + 2) 12)) vs) (sym (row_number 14 (drop at bs) (omega arith)))
 
   pub blocks_on : (at len : ℕ) (vs ws : List R) (n i : ℕ) → i < n → len ≡ stated_length bs (20 + 8 * i) → ws ≡ block_played f bs at vs
       → blocks_played f bs (20 + 8 * (i + 1)) (at + len) ws (n - (i + 1)) ≡ blocks_played f bs (20 + 8 * i) at vs (n - i)

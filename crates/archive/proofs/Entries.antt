@@ -1,6 +1,8 @@
 -- Looks and puts laid one after the other.
 use Rattle.std.proofs.Common.{◌≡◌, ℕ, ◌+◌, ◌<◌, ◌≤◌, Bool, true, false, cond, List, [], ◌∷◌, ◌++◌, map, length, get_or, drop, sym, refl, ap, ◌∙◌, arith}
+use Rattle.std.specs.Prelude.{count_by}
 use Rattle.std.specs.List.{flat_map}
+use Rattle.std.proofs.lemmas.List.Recursion.{is_count_by}
 use Rattle.std.proofs.lemmas.List.{at_drop_more, at_drop_all, length-append, append_assoc}
 use Rattle.kinds.specs.Bytes.{be4}
 use Rattle.kinds.specs.Forms.{Form, Formed}
@@ -81,39 +83,27 @@ module _ {S R : Type 0} (o : Order S) (f : Form R) (laws : Formed 8 o.form) (for
   look_wide l =
       let w = formed.wide l.saw.value in let x = laws.wide l.saw.stamp in let a = length-append (o.form.written l.saw.stamp) (f.written l.saw.value) in omega arith
 
-small : (b : Bool) → cond b 1 0 ≤ 1
-small true = omega arith
-small false = omega arith
-
 module _ {S R : Type 0} where
-  look_more : (e : Entry S R) (es : List (Entry S R)) → look_count (e ∷ es) ≡ cond e.seen 1 0 + look_count es
+  look_more : (e : Entry S R) (es : List (Entry S R)) → look_count (e ∷ es) ≡ cond e.seen (1 + look_count es) (look_count es)
   look_more e es = by e.seen
     where
-      by : (b : Bool) → length (look_first e.number (when b (record { value = e.saw; stamp = e.noted })) (looks_of (map line_of es))) ≡ cond b 1 0 + look_count es
+      by : (b : Bool) → length (look_first e.number (when b (record { value = e.saw; stamp = e.noted })) (looks_of (map line_of es))) ≡ cond b (1 + look_count es) (look_count es)
       by true = omega arith
-      by false = omega arith
+      by false = refl
 
-  put_more : (e : Entry S R) (es : List (Entry S R)) → put_count (e ∷ es) ≡ cond e.put 1 0 + put_count es
+  put_more : (e : Entry S R) (es : List (Entry S R)) → put_count (e ∷ es) ≡ cond e.put (1 + put_count es) (put_count es)
   put_more e es = by e.put
     where
-      by : (b : Bool) → length (put_first e.number (when b e.wrote) (puts_of (map line_of es))) ≡ cond b 1 0 + put_count es
+      by : (b : Bool) → length (put_first e.number (when b e.wrote) (puts_of (map line_of es))) ≡ cond b (1 + put_count es) (put_count es)
       by true = omega arith
-      by false = omega arith
+      by false = refl
 
-  -- one entry more is counted
-  pub looks_counted : (es : List (Entry S R)) (i n r : ℕ) (e : Entry S R) → i < length es → e ≡ get_or es i e → r ≡ cond e.seen 1 0
-      → (n + look_count (drop i es) ≡ look_count es) × (n ≤ i) → (n + r + look_count (drop (i + 1) es) ≡ look_count es) × (n + r ≤ i + 1)
-  looks_counted es i n r e h q p v =
-      let a : look_count (drop i es) ≡ cond e.seen 1 0 + look_count (drop (i + 1) es) = at_drop_more look_count es i e h ∙ ap (λ y. look_count (y ∷ drop (i + 1) es)) (sym q) ∙ look_more e (drop (i + 1) es) in
-      let k = small e.seen in
-      (omega (arith, v.0), omega (arith, v.1))
+  -- the looks and the puts, counted by their flags
+  pub looks_counted : (es : List (Entry S R)) → count_by (λ e. e.seen) es ≡ look_count es
+  looks_counted es = sym (is_count_by look_count (λ e. e.seen) refl look_more es)
 
-  pub puts_counted : (es : List (Entry S R)) (i n r : ℕ) (e : Entry S R) → i < length es → e ≡ get_or es i e → r ≡ cond e.put 1 0
-      → (n + put_count (drop i es) ≡ put_count es) × (n ≤ i) → (n + r + put_count (drop (i + 1) es) ≡ put_count es) × (n + r ≤ i + 1)
-  puts_counted es i n r e h q p v =
-      let a : put_count (drop i es) ≡ cond e.put 1 0 + put_count (drop (i + 1) es) = at_drop_more put_count es i e h ∙ ap (λ y. put_count (y ∷ drop (i + 1) es)) (sym q) ∙ put_more e (drop (i + 1) es) in
-      let k = small e.put in
-      (omega (arith, v.0), omega (arith, v.1))
+  pub puts_counted : (es : List (Entry S R)) → count_by (λ e. e.put) es ≡ put_count es
+  puts_counted es = sym (is_count_by put_count (λ e. e.put) refl put_more es)
 
 -- a block is its first 16 bytes, its looks and its puts
 module _ {S R : Type 0} (o : Order S) (f : Form R) (s : S) (ticket : ℕ) (es : List (Entry S R)) where

@@ -11,3 +11,4 @@ pub mod ForthBlocks
 pub mod OneForm
 pub mod Entries
 pub mod Heads
+pub mod RowLaws

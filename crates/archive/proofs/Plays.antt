@@ -1,23 +1,18 @@
 -- One turn of each loop of the play.
-use Rattle.std.proofs.Common.{◌≡◌, ℕ, ◌+◌, ◌-◌, ◌*◌, ◌<◌, ◌≤◌, Bool, true, ◌&&◌, eqb, List, [], ◌∷◌, ◌++◌, length, get_or, take, drop, sym, ap, ◌∙◌, arith}
-use Rattle.std.proofs.lemmas.List.{at_drop_more, at_drop_all, append_assoc, length-append}
+use Rattle.std.proofs.Common.{◌≡◌, ℕ, zero, suc, ◌+◌, ◌-◌, ◌*◌, ◌<◌, ◌≤◌, cond, eqb, leb, List, [], ◌++◌, length, take, drop, refl, sym, ap, ◌∙◌, arith}
+use Rattle.std.proofs.lemmas.List.{append_assoc, length-append, drop-drop, drop-take}
+use Rattle.std.specs.Prelude.{fold}
+use Rattle.std.specs.Simd.{first_chunks}
 use Rattle.kinds.specs.Stamps.{Order}
 use Rattle.kinds.specs.Bytes.{number2, part}
 use Rattle.archive.specs.Faults.{onward}
 use Rattle.archive.specs.Laying.{laid_over}
 use Rattle.archive.specs.Directory.{read_pair}
 use Rattle.archive.specs.Blocks.{read_front}
-use Rattle.archive.specs.Play.{alike, opening_table, read_look, read_looks, put_in, puts_after, play_jobs}
+use Rattle.archive.specs.Play.{opening_table, read_looks, put_in, entered, puts_after, play_jobs}
 use Rattle.archive.proofs.Counting.{at_left, last}
 use Rattle.archive.proofs.Laid.{taken}
-
-pub alike_more : (xs ys : List ℕ) (i : ℕ) (b : Bool) → i < length xs → i < length ys → eqb (get_or xs i 0) (get_or ys i 0) ≡ b → alike (drop i xs) (drop i ys) ≡ (b && alike (drop (i + 1) xs) (drop (i + 1) ys))
-alike_more xs ys i b h l e =
-    at_drop_more (λ zs. alike zs (drop i ys)) xs i 0 h ∙ at_drop_more (λ zs. alike (get_or xs i 0 ∷ drop (i + 1) xs) zs) ys i 0 l
-    ∙ ap (λ c. c && alike (drop (i + 1) xs) (drop (i + 1) ys)) e
-
-pub alike_all : (xs ys : List ℕ) (i : ℕ) → length xs ≤ i → length ys ≤ i → alike (drop i xs) (drop i ys) ≡ true
-alike_all xs ys i h l = at_drop_all (λ zs. alike zs (drop i ys)) xs i h ∙ at_drop_all (λ zs. alike [] zs) ys i l
+use Rattle.archive.proofs.RowLaws.{row_number}
 
 -- a record more in the table
 pub table_more : (least bs : List ℕ) (start n i : ℕ) (v d e : List ℕ) → i < n → length least ≡ 8 → length v ≡ 12 → 20 * i + 20 ≤ length d → v ≡ part bs (start + 12 * i) 12 → e ≡ laid_over (20 * i) (least ++ v) d
@@ -35,19 +30,19 @@ table_more least bs start n i v d e h l w r p q =
     ∙ ap (λ u. take (20 * i) d ++ ((least ++ u) ++ rest)) p
     ∙ sym (at_left (λ m. take (20 * i) d ++ opening_table least bs (start + 12 * i) m) n i h)
 
-pub looks_more : (bs : List ℕ) (at : ℕ) (table : List ℕ) (n i : ℕ) → i < n
-    → read_looks bs (at + 22 * i) table (n - i) ≡ onward (read_look bs (at + 22 * i) table) (λ _. read_looks bs (at + 22 * (i + 1)) table (n - (i + 1)))
-looks_more bs at table n i h =
-    let a : at + 22 * i + 22 ≡ at + 22 * (i + 1) = omega arith in
-    at_left (read_looks bs (at + 22 * i) table) n i h ∙ ap (λ m. onward (read_look bs (at + 22 * i) table) (λ _. read_looks bs m table (n - (i + 1)))) a
-
-pub puts_on : (bs : List ℕ) (block at : ℕ) (d e : List ℕ) (n i x : ℕ) → i < n → x ≡ number2 (part bs (at + 14 * i) 2) → e ≡ put_in bs block (at + 14 * i) d x
-    → puts_after bs block (at + 14 * (i + 1)) e (n - (i + 1)) ≡ puts_after bs block (at + 14 * i) d (n - i)
-puts_on bs block at d e n i x h p q =
-    let a : at + 14 * (i + 1) ≡ at + 14 * i + 14 = omega arith in
-    ap (λ m. puts_after bs block m e (n - (i + 1))) a
-    ∙ ap (λ us. puts_after bs block (at + 14 * i + 14) us (n - (i + 1))) (q ∙ ap (put_in bs block (at + 14 * i) d) p)
-    ∙ sym (at_left (puts_after bs block (at + 14 * i) d) n i h)
+-- the puts of rows, entered in turn
+pub entered_rows : (bs : List ℕ) (block : ℕ) (stamp : List ℕ) → stamp ≡ part bs block 8 → (m at : ℕ) (table : List ℕ) → fold (entered stamp) table (first_chunks 14 m (drop at bs)) ≡ puts_after bs block at table m
+entered_rows bs block stamp e zero at table = refl
+entered_rows bs block stamp e (suc m) at table =
+    ap (λ xs. fold (entered stamp) (entered stamp table (part bs at 14)) (first_chunks 14 m xs)) (drop-drop 14 at bs)
+    ∙ entered_rows bs block stamp e m (at + 14) (entered stamp table (part bs at 14))
+    ∙ ap (λ t. puts_after bs block (at + 14) t m) one
+  where
+    one : entered stamp table (part bs at 14) ≡ put_in bs block at table (number2 (part bs at 2))
+    one =
+        ap (λ s. entered s table (part bs at 14)) e
+        ∙ ap (λ v. cond (leb (20 * number2 (part bs at 14) + 20) (length table)) (laid_over (20 * number2 (part bs at 14)) (part bs block 8 ++ v) table) table) (drop-take 2 12 (drop at bs) ∙ ap (take 12) (drop-drop 2 at bs))
+        ∙ ap (λ x. cond (leb (20 * x + 20) (length table)) (laid_over (20 * x) (part bs block 8 ++ part bs (at + 2) 12) table) table) (sym (row_number 14 (drop at bs) (omega arith)))
 
 module _ {S : Type 0} (o : Order S) (bs : List ℕ) where
   pub play_more : (i j at : ℕ) (low : S) (table : List ℕ) → i < j

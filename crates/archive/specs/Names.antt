@@ -1,5 +1,6 @@
 -- Record numbers in a block, and what is asked of them.
-use Rattle.std.specs.Prelude.{ℕ, zero, suc, ◌+◌, Bool, true, false, cond, not, ◌&&◌, ◌||◌, List, [], ◌∷◌, length, ◌==◌, nat_le, nat_lt}
+use Rattle.std.specs.Prelude.{ℕ, zero, suc, ◌+◌, Bool, true, not, ◌&&◌, List, [], ◌∷◌, length, ◌==◌, nat_le, nat_lt, count_by}
+use Rattle.std.specs.List.{list_all, list_any}
 use Rattle.kinds.specs.Bytes.{number2, part}
 
 -- so many record numbers, each so many bytes after the one before
@@ -8,12 +9,10 @@ numbers bs at step zero = []
 numbers bs at step (suc m) = number2 (part bs at 2) ∷ numbers bs (at + step) step m
 
 abbrev pub all_below : ℕ → List ℕ → Bool
-all_below n [] = true
-all_below n (x ∷ xs) = nat_lt x n && all_below n xs
+all_below n xs = list_all (λ x. nat_lt x n) xs
 
 abbrev pub holds : ℕ → List ℕ → Bool
-holds x [] = false
-holds x (y ∷ ys) = x == y || holds x ys
+holds x ys = list_any (λ y. y == x) ys
 
 -- none twice
 abbrev pub apart : List ℕ → Bool
@@ -22,8 +21,7 @@ apart (x ∷ xs) = not (holds x xs) && apart xs
 
 -- how many of the second list are not in the first
 abbrev pub beyond : List ℕ → List ℕ → ℕ
-beyond xs [] = 0
-beyond xs (y ∷ ys) = cond (holds y xs) 0 1 + beyond xs ys
+beyond xs ys = count_by (λ y. not (holds y xs)) ys
 
 -- each below n, none twice among looks or among puts, and at most 16 different ones
 abbrev pub names_right : ℕ → List ℕ → List ℕ → Bool

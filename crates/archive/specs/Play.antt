@@ -1,5 +1,6 @@
 -- The play of an archive: a table of what stands at each record, 20 bytes each, the written stamp and the written value.
-use Rattle.std.specs.Prelude.{ℕ, zero, suc, ◌+◌, ◌-◌, ◌*◌, Bool, true, false, cond, ◌&&◌, List, [], ◌∷◌, ◌++◌, length, Ok, Err, Result, ◌==◌, nat_le}
+use Rattle.std.specs.Prelude.{ℕ, zero, suc, ◌+◌, ◌-◌, ◌*◌, Bool, cond, ◌&&◌, List, [], ◌++◌, length, drop, Ok, Err, Result, ◌==◌, nat_le}
+use Rattle.std.specs.Str.{bytes_eq}
 use Rattle.kinds.specs.Bytes.{number2, part}
 use Rattle.kinds.specs.Stamps.{Order}
 use Rattle.archive.specs.declared.fault.Fault.{Fault}
@@ -10,10 +11,7 @@ use Rattle.archive.specs.Directory.{read_pair}
 use Rattle.archive.specs.Blocks.{read_front}
 
 abbrev pub alike : List ℕ → List ℕ → Bool
-alike [] [] = true
-alike [] (y ∷ ys) = false
-alike (x ∷ xs) [] = false
-alike (x ∷ xs) (y ∷ ys) = x == y && alike xs ys
+alike xs ys = bytes_eq xs ys
 
 -- at first the opening values, every stamp least
 abbrev pub opening_table : List ℕ → List ℕ → ℕ → ℕ → List ℕ
@@ -34,6 +32,10 @@ read_looks bs at table (suc m) = onward (read_look bs at table) (λ _. read_look
 -- a put enters its value under the stamp of its block
 abbrev pub put_in : List ℕ → ℕ → ℕ → List ℕ → ℕ → List ℕ
 put_in bs block at table x = cond (nat_le (20 * x + 20) (length table)) (laid_over (20 * x) (part bs block 8 ++ part bs (at + 2) 12) table) table
+
+-- the same, of the bytes of a stamp and of a put
+abbrev pub entered : List ℕ → List ℕ → List ℕ → List ℕ
+entered stamp table put = cond (nat_le (20 * number2 put + 20) (length table)) (laid_over (20 * number2 put) (stamp ++ drop 2 put) table) table
 
 abbrev pub puts_after : List ℕ → ℕ → ℕ → List ℕ → ℕ → List ℕ
 puts_after bs block at table zero = table

@@ -1,5 +1,5 @@
 -- The values that stand after so many jobs of an archive.
-use Rattle.std.specs.Prelude.{ℕ, zero, suc, ◌+◌, ◌*◌, Bool, cond, ◌&&◌, List, length, Some, None, Ok, Err, Option, Result, ◌==◌, nat_le, slice_index, slice_set}
+use Rattle.std.specs.Prelude.{ℕ, zero, suc, ◌+◌, ◌*◌, Bool, cond, ◌&&◌, List, length, drop, Some, None, Ok, Err, Option, Result, ◌==◌, nat_le, slice_index, slice_set}
 use Rattle.kinds.specs.Bytes.{number2, part}
 use Rattle.kinds.specs.Forms.{Form}
 use Rattle.archive.specs.declared.fault.Fault.{Fault}
@@ -14,6 +14,10 @@ module _ {R : Type 0} where
   abbrev pub value_in : Option R → List R → ℕ → List R
   value_in (Some v) vs x = slice_set vs x v
   value_in None vs x = vs
+
+-- a put of 14 bytes, entered
+abbrev pub value_entered : {R : Type 0} → Form R → List R → List ℕ → List R
+value_entered f vs put = value_in (f.read (drop 2 put)) vs (number2 put)
 
 module _ {R : Type 0} (f : Form R) (bs : List ℕ) where
   -- so many puts, from a place on

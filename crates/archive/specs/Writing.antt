@@ -1,6 +1,6 @@
 -- What is written for a registrar's tables.
-use Rattle.std.specs.Prelude.{ℕ, ◌*◌, Bool, true, ◌&&◌, List, [], ◌∷◌, map, take, drop, nat_le, nat_lt}
-use Rattle.std.specs.List.{flat_map}
+use Rattle.std.specs.Prelude.{ℕ, ◌*◌, Bool, ◌&&◌, List, map, take, drop, nat_le, nat_lt}
+use Rattle.std.specs.List.{flat_map, list_all}
 use Rattle.kinds.specs.Forms.{Form}
 use Rattle.kinds.specs.Stamps.{Order}
 use Rattle.model.specs.declared.entry.Entry.{Entry}
@@ -18,8 +18,7 @@ abbrev pub head_right : {S : Type 0} → ℕ → Head S → Bool
 head_right n h = nat_lt h.place n && nat_le h.count 16
 
 abbrev pub heads_right : {S : Type 0} → ℕ → List (Head S) → Bool
-heads_right n [] = true
-heads_right n (h ∷ hs) = head_right n h && heads_right n hs
+heads_right n hs = list_all (head_right n) hs
 
 module _ {S R : Type 0} (o : Order S) (f : Form R) (lines : List (Entry S R)) where
   -- the block of a job of the journal, and those of some jobs

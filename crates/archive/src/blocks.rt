@@ -1,11 +1,13 @@
 // The blocks of jobs.
-ghost use Rattle.std.specs.Prelude.{◌≡◌, ◌+◌, ◌*◌, ◌<◌, ◌≤◌, length, IfOk};
-ghost use Rattle.archive.specs.Blocks.{stamp_at, all_noted, read_front, names_of, read_block, read_blocks};
+ghost use Rattle.std.specs.Prelude.{◌≡◌, ◌+◌, ◌*◌, ◌<◌, ◌≤◌, length, IfOk, is_some};
+ghost use Rattle.std.specs.List.{list_all};
+ghost use Rattle.archive.specs.Blocks.{stamp_at, read_front, names_of, read_block, read_blocks};
 
 use crate::directory::{number_at, pair};
 use crate::fault::Fault;
 use crate::lengths::is_length;
 use crate::names::{gather, names_fit};
+use crate::rows::{form, rows};
 use crate::values::values;
 use kinds::stamp::Stamp;
 use kinds::value::Record;
@@ -34,9 +36,7 @@ fn stamp<S: Stamp>(bytes: &[u8], at: usize) -> Option<S>
     requires { at + 8 ≤ length bytes.now }
     ensures { result ≡ stamp_at S.Stamp.kind.order bytes.now at }
 {
-    let mut form = [0; 8];
-    form.copy_from_slice(&bytes[at..at + 8]);
-    S::from_bytes(form)
+    S::from_bytes(form(bytes, at))
 }
 
 // The first 16 bytes of the block at a place, of a length, behind a block of a stamp.
@@ -76,16 +76,10 @@ pub(crate) fn front<S: Stamp>(
 }
 
 // Whether every look's stamp is one.
-fn stamps_noted<S: Stamp>(bytes: &[u8], at: usize, count: usize) -> bool
-    requires { at + 22 * count ≤ length bytes.now }
-    ensures { result ≡ all_noted S.Stamp.kind.order bytes.now at count }
+fn are_noted<S: Stamp>(looks: &[[u8; 22]]) -> bool
+    ensures { result ≡ list_all (λ look. is_some (stamp_at S.Stamp.kind.order look 2)) looks.now }
 {
-    for i in 0..count {
-        if stamp::<S>(bytes, at + 22 * i + 2).is_none() {
-            return false;
-        }
-    }
-    true
+    looks.iter().all(|look| stamp::<S>(look, 2).is_some())
 }
 
 // Whether the record numbers of a block, and the stamps of its looks, are right.
@@ -93,9 +87,9 @@ fn names<S: Stamp>(bytes: &[u8], n: usize, at: usize, looks: usize, puts: usize)
     requires { (looks ≤ 16) × ((puts ≤ 16) × (at + 16 + 22 * looks + 14 * puts ≤ length bytes.now)) }
     ensures { result ≡ names_of S.Stamp.kind.order bytes.now n at looks puts }
 {
-    let seen = gather(bytes, at + 16, 22, looks);
-    let put = gather(bytes, at + 16 + 22 * looks, 14, puts);
-    names_fit(n, &seen[..looks], &put[..puts]) && stamps_noted::<S>(bytes, at + 16, looks)
+    let seen = rows::<22>(bytes, at + 16, looks);
+    let put = rows::<14>(bytes, at + 16 + 22 * looks, puts);
+    names_fit(n, &gather(seen)[..looks], &gather(put)[..puts]) && are_noted::<S>(seen)
 }
 
 // The whole block: all but the values, then the values.

@@ -4,6 +4,7 @@ ghost use Rattle.kinds.specs.Bytes.{number4, part};
 ghost use Rattle.archive.specs.Directory.{read_pair, read_pairs, read_directory};
 
 use crate::fault::Fault;
+use crate::rows::form;
 
 // The number in the 4 bytes at a place.
 pub(crate) fn number_at(bytes: &[u8], at: usize) -> usize
@@ -11,9 +12,7 @@ pub(crate) fn number_at(bytes: &[u8], at: usize) -> usize
     ensures value { result ≡ number4 (part bytes.now at 4) }
     ensures small { result < 4294967296 }
 {
-    let mut form = [0; 4];
-    form.copy_from_slice(&bytes[at..at + 4]);
-    u32::from_be_bytes(form) as usize
+    u32::from_be_bytes(form(bytes, at)) as usize
 }
 
 // Where the part of the pair at a place ends. The part starts where the one before ended; the last ends with the archive.

@@ -22,12 +22,7 @@ fn is_right<S: Stamp>(h: Head<S>, n: usize) -> bool
 pub(crate) fn are_right<S: Stamp>(heads: &[Head<S>], n: usize) -> bool
     ensures { result ≡ heads_right n heads.now }
 {
-    for i in 0..heads.len() {
-        if !is_right(heads[i], n) {
-            return false;
-        }
-    }
-    true
+    heads.iter().all(|h| is_right(*h, n))
 }
 
 // Lays values, one after the other.
@@ -37,8 +32,8 @@ pub(crate) fn lay_values<R: Record>(space: &mut [u8], at: usize, values: &[R]) -
     ensures next { result ≡ at + length (values_bytes R.Record.kind.form values.now) }
 {
     let mut here = at;
-    for i in 0..values.len() {
-        here = lay_value(space, here, values[i]);
+    for value in values {
+        here = lay_value(space, here, *value);
     }
     here
 }

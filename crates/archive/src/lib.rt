@@ -13,5 +13,6 @@ mod lengths;
 mod names;
 pub mod play;
 mod replay;
+mod rows;
 mod values;
 mod writer;

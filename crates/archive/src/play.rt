@@ -1,14 +1,14 @@
 // Plays an archive into a space of values.
 ghost use Rattle.std.specs.Prelude.{◌≡◌, ◌+◌, ◌*◌, ◌<◌, ◌≤◌, length, OnOk, slice_set};
-ghost use Rattle.kinds.specs.Bytes.{part};
 ghost use Rattle.archive.specs.Values.{read_values, stated_values};
 ghost use Rattle.archive.specs.Rule.{read_archive};
-ghost use Rattle.archive.specs.Played.{value_in, values_after, block_played, blocks_played, play_answer, play_leaves};
+ghost use Rattle.archive.specs.Played.{value_entered, values_after, block_played, blocks_played, play_answer, play_leaves};
 
 use crate::directory::number_at;
 use crate::fault::Fault;
 use crate::inspect::checked;
 use crate::names::record_at;
+use crate::rows::rows;
 use crate::values::value;
 use kinds::stamp::Stamp;
 use kinds::value::Record;
@@ -26,7 +26,7 @@ fn load<R: Record>(bytes: &[u8], at: usize, space: &mut [R]) -> Result<(), Fault
     Ok(())
 }
 
-// Enters a value at a record that the space has.
+// Enters a value at a record, if the space has it.
 fn enter_at<R: Record>(space: &mut [R], x: usize, v: R)
     ensures { space.new ≡ slice_set space.old x v }
 {
@@ -35,13 +35,12 @@ fn enter_at<R: Record>(space: &mut [R], x: usize, v: R)
     }
 }
 
-// Enters the value whose bytes stand at a place.
-fn enter_value<R: Record>(bytes: &[u8], here: usize, space: &mut [R], x: usize)
-    requires { here + 12 ≤ length bytes.now }
-    ensures { space.new ≡ value_in (R.Record.kind.form.read (part bytes.now here 12)) space.old x }
+// Enters the value of a put at its record.
+fn enter_put<R: Record>(put: &[u8; 14], space: &mut [R])
+    ensures { space.new ≡ value_entered R.Record.kind.form space.old put.now }
 {
-    if let Ok(v) = value::<R>(bytes, here) {
-        enter_at(space, x, v);
+    if let Ok(v) = value(put, 2) {
+        enter_at(space, usize::from(record_at(put, 0)), v);
     }
 }
 
@@ -50,10 +49,8 @@ fn enter_puts<R: Record>(bytes: &[u8], first: usize, space: &mut [R], count: usi
     requires { first + 14 * count ≤ length bytes.now }
     ensures { space.new ≡ values_after R.Record.kind.form bytes.now first space.old count }
 {
-    for i in 0..count {
-        let here = first + 14 * i;
-        let x = usize::from(record_at(bytes, here));
-        enter_value(bytes, here + 2, space, x);
+    for put in rows::<14>(bytes, first, count) {
+        enter_put(put, space);
     }
 }
 
@@ -78,9 +75,9 @@ fn enter_blocks<R: Record>(bytes: &[u8], first: usize, space: &mut [R], jobs: us
     ensures { space.new ≡ blocks_played R.Record.kind.form bytes.now 20 first space.old jobs }
 {
     let mut from = first;
-    for i in 0..jobs {
+    for pair in rows::<8>(bytes, 20, jobs) {
         enter_block(bytes, from, space);
-        from += number_at(bytes, 20 + 8 * i + 4);
+        from += number_at(pair, 4);
     }
 }
 

@@ -1,6 +1,6 @@
 // The play of an archive over a table of what stands at each record.
 ghost use Rattle.std.specs.Prelude.{◌≡◌, ◌+◌, ◌*◌, ◌<◌, ◌≤◌, length};
-ghost use Rattle.archive.specs.Play.{alike, opening_table, look_borne, read_look, read_looks, put_in, puts_after, by_answer, play_jobs};
+ghost use Rattle.archive.specs.Play.{opening_table, look_borne, read_look, read_looks, entered, puts_after, by_answer, play_jobs};
 ghost use Rattle.archive.specs.Rule.{read_play};
 
 use crate::blocks::{Opened, front};
@@ -8,29 +8,16 @@ use crate::directory::pair;
 use crate::fault::Fault;
 use crate::laying::lay_both;
 use crate::names::record_at;
+use crate::rows::{form, rows};
 use kinds::stamp::Stamp;
-
-// Whether two rows of bytes, equally many, are the same.
-fn are_alike(a: &[u8], b: &[u8]) -> bool
-    requires { length a.now ≡ length b.now }
-    ensures { result ≡ alike a.now b.now }
-{
-    for i in 0..a.len() {
-        if a[i] != b[i] {
-            return false;
-        }
-    }
-    true
-}
 
 // Fills the table: at each record the least stamp and the opening value.
 fn open_table(bytes: &[u8], start: usize, least: &[u8], table: &mut [u8], n: usize)
     requires { (n ≤ 1024) × ((length least.now ≡ 8) × ((length table.old ≡ 20 * n) × (start + 12 * n ≤ length bytes.now))) }
     ensures { table.new ≡ opening_table least.now bytes.now start n }
 {
-    for i in 0..n {
-        let here = start + 12 * i;
-        lay_both(table, 20 * i, least, &bytes[here..here + 12]);
+    for (i, value) in rows::<12>(bytes, start, n).iter().enumerate() {
+        lay_both(table, 20 * i, least, value);
     }
 }
 
@@ -39,8 +26,7 @@ fn is_borne(bytes: &[u8], here: usize, table: &[u8], x: usize) -> bool
     requires { (here + 22 ≤ length bytes.now) × (x < 65536) }
     ensures { result ≡ look_borne bytes.now here table.now x }
 {
-    20 * x + 20 <= table.len()
-        && are_alike(&table[20 * x..20 * x + 20], &bytes[here + 2..here + 22])
+    20 * x + 20 <= table.len() && table[20 * x..20 * x + 20] == bytes[here + 2..here + 22]
 }
 
 // The look at a place: a fault unless it is borne out.
@@ -61,36 +47,30 @@ fn looks(bytes: &[u8], first: usize, table: &[u8], count: usize) -> Result<(), F
     requires { first + 22 * count ≤ length bytes.now }
     ensures { result ≡ read_looks bytes.now first table.now count }
 {
-    for i in 0..count {
-        look(bytes, first + 22 * i, table)?;
+    for here in (first..first + 22 * count).step_by(22) {
+        look(bytes, here, table)?;
     }
     Ok(())
 }
 
-// Enters the put at a place under the stamp of its block.
-fn enter(bytes: &[u8], block: usize, here: usize, table: &mut [u8], x: usize)
-    requires { (block + 8 ≤ length bytes.now) × ((here + 14 ≤ length bytes.now) × (x < 65536)) }
-    ensures { table.new ≡ put_in bytes.now block here table.old x }
+// Enters a put under a stamp.
+fn enter(put: &[u8; 14], stamp: &[u8; 8], table: &mut [u8])
+    ensures { table.new ≡ entered stamp.now table.old put.now }
 {
-    if 20 * x + 20 <= table.len() {
-        lay_both(
-            table,
-            20 * x,
-            &bytes[block..block + 8],
-            &bytes[here + 2..here + 14],
-        );
+    let at = 20 * usize::from(record_at(put, 0));
+    if at + 20 <= table.len() {
+        lay_both(table, at, stamp, &put[2..]);
     }
 }
 
-// The puts of a block, from a place on.
+// The puts of a block, from a place on, under the stamp of the block.
 fn puts(bytes: &[u8], block: usize, first: usize, table: &mut [u8], count: usize)
     requires { (block + 8 ≤ length bytes.now) × (first + 14 * count ≤ length bytes.now) }
     ensures { table.new ≡ puts_after bytes.now block first table.old count }
 {
-    for i in 0..count {
-        let here = first + 14 * i;
-        let x = usize::from(record_at(bytes, here));
-        enter(bytes, block, here, table, x);
+    let stamp = form::<8>(bytes, block);
+    for put in rows::<14>(bytes, first, count) {
+        enter(put, &stamp, table);
     }
 }
 

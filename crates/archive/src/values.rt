@@ -3,6 +3,7 @@ ghost use Rattle.std.specs.Prelude.{◌≡◌, ◌+◌, ◌*◌, ◌<◌, ◌≤
 ghost use Rattle.archive.specs.Values.{read_value, read_values};
 
 use crate::fault::Fault;
+use crate::rows::form;
 use kinds::value::Record;
 
 // The value at a place.
@@ -10,12 +11,7 @@ pub(crate) fn value<R: Record>(bytes: &[u8], at: usize) -> Result<R, Fault>
     requires { at + 12 ≤ length bytes.now }
     ensures { result ≡ read_value R.Record.kind.form bytes.now at }
 {
-    let mut form = [0; 12];
-    form.copy_from_slice(&bytes[at..at + 12]);
-    match R::from_bytes(form) {
-        Some(v) => Ok(v),
-        None => Err(Fault::ValueWrong { place: at }),
-    }
+    R::from_bytes(form(bytes, at)).ok_or(Fault::ValueWrong { place: at })
 }
 
 // Checks so many values, each so many bytes after the one before.
@@ -28,10 +24,8 @@ pub(crate) fn values<R: Record>(
     requires { (12 ≤ step) × ((step < 256) × (at + step * count + 12 ≤ length bytes.now + step)) }
     ensures { result ≡ read_values R.Record.kind.form bytes.now at step count }
 {
-    let mut here = at;
-    for i in 0..count {
+    for here in (at..at + step * count).step_by(step) {
         value::<R>(bytes, here)?;
-        here += step;
     }
     Ok(())
 }

@@ -64,8 +64,8 @@ pub(crate) fn lay_looks<S: Stamp, R: Record>(
     ensures next { result ≡ at + length (looks_in S.Stamp.kind.order R.Record.kind.form entries.now) }
 {
     let mut here = at;
-    for i in 0..entries.len() {
-        here = lay_look(space, here, entries[i]);
+    for e in entries {
+        here = lay_look(space, here, *e);
     }
     here
 }
@@ -81,48 +81,21 @@ pub(crate) fn lay_puts<S: Stamp, R: Record>(
     ensures next { result ≡ at + length (puts_in S.Stamp.kind.order R.Record.kind.form entries.now) }
 {
     let mut here = at;
-    for i in 0..entries.len() {
-        here = lay_put(space, here, entries[i]);
+    for e in entries {
+        here = lay_put(space, here, *e);
     }
     here
 }
 
-// 1 for an entry that is seen, else 0.
-fn one_look<S: Stamp, R: Record>(e: Entry<S, R>) -> usize
-    ensures { result ≡ (if e.seen then 1 else 0) }
+// How many looks and how many puts some entries have.
+fn counts<S: Stamp, R: Record>(entries: &[Entry<S, R>]) -> (u8, u8)
+    requires { length entries.now ≤ 16 }
+    ensures looks { result.0 ≡ look_count entries.now }
+    ensures puts { result.1 ≡ put_count entries.now }
 {
-    if e.seen { 1 } else { 0 }
-}
-
-// 1 for an entry that is put, else 0.
-fn one_put<S: Stamp, R: Record>(e: Entry<S, R>) -> usize
-    ensures { result ≡ (if e.put then 1 else 0) }
-{
-    if e.put { 1 } else { 0 }
-}
-
-// How many entries are seen.
-fn count_looks<S: Stamp, R: Record>(entries: &[Entry<S, R>]) -> usize
-    ensures value { result ≡ look_count entries.now }
-    ensures few { result ≤ length entries.now }
-{
-    let mut count = 0;
-    for i in 0..entries.len() {
-        count += one_look(entries[i]);
-    }
-    count
-}
-
-// How many entries are put.
-fn count_puts<S: Stamp, R: Record>(entries: &[Entry<S, R>]) -> usize
-    ensures value { result ≡ put_count entries.now }
-    ensures few { result ≤ length entries.now }
-{
-    let mut count = 0;
-    for i in 0..entries.len() {
-        count += one_put(entries[i]);
-    }
-    count
+    let looks = entries.iter().filter(|e| e.seen).count();
+    let puts = entries.iter().filter(|e| e.put).count();
+    (looks as u8, puts as u8)
 }
 
 // Lays the first 16 bytes of a block: stamp, ticket, number of looks, number of puts, two zero bytes.
@@ -146,9 +119,8 @@ pub(crate) fn lay_block<S: Stamp, R: Record>(
     ensures space { space.new ≡ laid_over at (block_in S.Stamp.kind.order R.Record.kind.form stamp ticket entries.now) space.old }
     ensures next { result ≡ at + length (block_in S.Stamp.kind.order R.Record.kind.form stamp ticket entries.now) }
 {
-    let looks = count_looks(entries);
-    let puts = count_puts(entries);
-    lay_front(space, at, stamp, ticket, looks as u8, puts as u8);
+    let (looks, puts) = counts(entries);
+    lay_front(space, at, stamp, ticket, looks, puts);
     let middle = lay_looks(space, at + 16, entries);
     lay_puts(space, middle, entries)
 }

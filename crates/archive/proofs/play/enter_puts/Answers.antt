@@ -1,8 +1,12 @@
-use Rattle.std.proofs.Common.{◌∙◌, arith}
-use Rattle.archive.proofs.Entering.{values_on}
+use Rattle.std.proofs.Common.{ap, ◌∙◌, arith}
+use Rattle.std.proofs.lemmas.List.{take_all}
+use Rattle.std.specs.Prelude.{fold}
+use Rattle.archive.specs.Played.{value_entered}
+use Rattle.archive.proofs.Entering.{values_entered}
 use Rattle.archive.proofs.play.enter_puts.Goals as goal
 
-pub loop-i-preserved : goal.loop-i-preserved
-loop-i-preserved g c =
-    values_on g.R.Record.kind.form c.args.bytes.now c.args.first c.loop-i.space c.enter_value.new.space c.args.count c.loop-i.i c.from-x.result (omega arith)
-    (c.from-x.ensures ∙ c.record_at.ensures) c.enter_value.ensures ∙ c.loop-i.invariant
+pub returns : goal.returns
+returns g c =
+    c.loop-put.invariant
+    ∙ ap (fold (value_entered g.R.Record.kind.form) c.args.space.now) (take_all c.loop-put.put-index c.rows-put-items.result.now (omega arith) ∙ c.rows-put-items.ensures.rows)
+    ∙ values_entered g.R.Record.kind.form c.args.bytes.now c.args.count c.args.first c.args.space.now

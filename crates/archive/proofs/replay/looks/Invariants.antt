@@ -1,6 +1,7 @@
-use Rattle.std.proofs.Common.{◌≡◌, ◌+◌, ◌-◌, ◌*◌}
+use Rattle.std.proofs.Common.{◌≡◌}
 use Rattle.archive.specs.Play.{read_looks}
+use Rattle.archive.proofs.Counting.{Left}
 use Rattle.archive.proofs.replay.looks.Given as goal
 
-abbrev pub invariant-loop-i : goal.invariant-loop-i
-invariant-loop-i l = read_looks l.bytes (l.first + 22 * l.i) l.table (l.count - l.i) ≡ read_looks l.bytes l.first l.table l.count
+abbrev pub invariant-loop-here : goal.invariant-loop-here
+invariant-loop-here l = Left 22 l.here l.here-end (λ left. read_looks l.bytes l.here l.table left ≡ read_looks l.bytes l.first l.table l.count)

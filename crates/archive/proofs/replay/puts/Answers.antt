@@ -1,8 +1,11 @@
-use Rattle.std.proofs.Common.{◌∙◌, arith}
-use Rattle.archive.proofs.Plays.{puts_on}
+use Rattle.std.proofs.Common.{ap, ◌∙◌, arith}
+use Rattle.std.proofs.lemmas.List.{take_all}
+use Rattle.std.specs.Prelude.{fold}
+use Rattle.archive.specs.Play.{entered}
+use Rattle.archive.proofs.Plays.{entered_rows}
 use Rattle.archive.proofs.replay.puts.Goals as goal
 
-pub loop-i-preserved : goal.loop-i-preserved
-loop-i-preserved c =
-    puts_on c.args.bytes.now c.args.block c.args.first c.loop-i.table c.enter.new.table c.args.count c.loop-i.i c.from-x.result (omega arith)
-    (c.from-x.ensures ∙ c.record_at.ensures) c.enter.ensures ∙ c.loop-i.invariant
+pub returns : goal.returns
+returns c =
+    c.loop-put.invariant ∙ ap (fold (entered c.form-stamp.result) c.args.table.now) (take_all c.loop-put.put-index c.rows-put-items.result.now (omega arith) ∙ c.rows-put-items.ensures.rows)
+    ∙ entered_rows c.args.bytes.now c.args.block c.form-stamp.result c.form-stamp.ensures c.args.count c.args.first c.args.table.now

@@ -1,6 +1,7 @@
-use Rattle.std.proofs.Common.{◌≡◌, ◌+◌, ◌-◌, ◌*◌}
-use Rattle.archive.specs.Play.{puts_after}
+use Rattle.std.proofs.Common.{◌≡◌, take}
+use Rattle.std.specs.Prelude.{fold}
+use Rattle.archive.specs.Play.{entered}
 use Rattle.archive.proofs.replay.puts.Given as goal
 
-abbrev pub invariant-loop-i : goal.invariant-loop-i
-invariant-loop-i l = puts_after l.bytes l.block (l.first + 14 * l.i) l.table (l.count - l.i) ≡ puts_after l.bytes l.block l.first l.initial.table l.count
+abbrev pub invariant-loop-put : goal.invariant-loop-put
+invariant-loop-put l = l.table ≡ fold (entered l.stamp) l.initial.table (take l.put-index l.put-items)

@@ -24,8 +24,8 @@ returns g c =
     let pb : List ℕ = puts_in g.S.Stamp.kind.order g.R.Record.kind.form c.args.entries.now in
     let d : List ℕ = c.args.space.now in
     let e0 : c.lay_front.new.space ≡ laid_over c.args.at fb d =
-    c.lay_front.ensures ∙ ap (λ r. laid_over c.args.at (front_bytes g.S.Stamp.kind.order c.args.stamp c.args.ticket r c.count_puts-puts.result) d) c.count_looks-looks.ensures.value
-    ∙ ap (λ p. laid_over c.args.at (front_bytes g.S.Stamp.kind.order c.args.stamp c.args.ticket (look_count c.args.entries.now) p) d) c.count_puts-puts.ensures.value in
+    c.lay_front.ensures ∙ ap (λ r. laid_over c.args.at (front_bytes g.S.Stamp.kind.order c.args.stamp c.args.ticket r c.counts-looks.result.1) d) c.counts-looks.ensures.looks
+    ∙ ap (λ p. laid_over c.args.at (front_bytes g.S.Stamp.kind.order c.args.stamp c.args.ticket (look_count c.args.entries.now) p) d) c.counts-looks.ensures.puts in
     let e1 : c.lay_looks-middle.new.space ≡ laid_over c.args.at (fb ++ lb) d =
     laid_next c.args.at (c.args.at + 16) fb lb d c.lay_front.new.space c.lay_looks-middle.new.space (omega (arith, fw)) (omega (arith, fw, b, c.requires.1)) e0 c.lay_looks-middle.ensures.space in
     let fl : length (fb ++ lb) ≡ 16 + length lb = length-append fb lb ∙ ap (λ n. n + length lb) fw in
