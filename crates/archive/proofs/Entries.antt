@@ -73,6 +73,16 @@ module _ {S R : Type 0} (o : Order S) (f : Form R) where
       by true = refl
       by false = refl
 
+-- those of some entries, laid one after the other
+module _ {S R : Type 0} (o : Order S) (f : Form R) where
+  pub looks_laid : (es : List (Entry S R)) → flat_map (look_in o f) es ≡ looks_in o f es
+  looks_laid [] = refl
+  looks_laid (e ∷ es) = ap (λ xs. look_in o f e ++ xs) (looks_laid es) ∙ sym (looks_first o f e es)
+
+  pub puts_laid : (es : List (Entry S R)) → flat_map (put_in_entry o f) es ≡ puts_in o f es
+  puts_laid [] = refl
+  puts_laid (e ∷ es) = ap (λ xs. put_in_entry o f e ++ xs) (puts_laid es) ∙ sym (puts_first o f e es)
+
 -- nothing laid
 pub laid_no : (b : Bool) (xs : List ℕ) → b ≡ false → (at : ℕ) (d : List ℕ) → (d ≡ laid_over at (cond b xs []) d) × (at ≡ at + length (cond b xs []))
 laid_no true xs e at d = let z : ◌≡◌ {A = ℕ} 0 1 = cc in absurd (omega arith)

@@ -9,9 +9,9 @@ use crate::lengths::is_length;
 use crate::names::{gather, names_fit};
 use crate::rows::{form, rows};
 use crate::values::values;
+use kinds::bounds::before;
 use kinds::stamp::Stamp;
 use kinds::value::Record;
-use std::cmp::Ordering;
 
 // What the first 16 bytes of a block state: the stamp, how many looks and how many puts.
 #[derive(Clone, Copy)]
@@ -19,16 +19,6 @@ pub struct Opened<S> {
     pub stamp: S,
     pub looks: usize,
     pub puts: usize,
-}
-
-// Whether a stamp is before another.
-fn is_before<S: Stamp>(a: S, b: S) -> bool
-    ensures { result ≡ S.Stamp.kind.order.before a b }
-{
-    match a.compare(b) {
-        Ordering::Less => true,
-        _ => false,
-    }
 }
 
 // The stamp at a place, if its bytes are one.
@@ -57,7 +47,7 @@ pub(crate) fn front<S: Stamp>(
     let Some(s) = stamp::<S>(bytes, at) else {
         return Err(wrong);
     };
-    if !is_before(S::least(), s) || is_before(s, low) || number_at(bytes, at + 8) < 1 {
+    if !before(S::least(), s) || before(s, low) || number_at(bytes, at + 8) < 1 {
         return Err(wrong);
     }
     if bytes[at + 14] != 0 || bytes[at + 15] != 0 {

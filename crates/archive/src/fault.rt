@@ -4,7 +4,7 @@ ghost use Rattle.archive.specs.Faults.{fault_listed};
 
 // What is wrong with an archive, or with the space that a call was given. A place is the first byte of
 // the pair, the block, the value or the look that is named, counted from 0.
-#[derive(Clone, Copy)]
+#[derive(Clone, Copy, Debug, PartialEq, Eq)]
 pub enum Fault {
     HeadingWrong,
     PairWrong { place: usize },
@@ -14,12 +14,12 @@ pub enum Fault {
     NotBorneOut { place: usize },
 }
 
-impl Fault {
-    // The number of a fault.
-    pub fn number(self) -> u8
-        ensures { result ≡ (fault_listed self).number }
-    {
-        match self {
+// The number of a fault.
+impl From<Fault> for u8 {
+    ghost from_gives = { λ fault n. n ≡ (fault_listed fault).number };
+
+    fn from(fault: Fault) -> u8 {
+        match fault {
             Fault::HeadingWrong => 14,
             Fault::PairWrong { .. } => 15,
             Fault::BlockWrong { .. } => 16,
@@ -28,6 +28,15 @@ impl Fault {
             Fault::NotBorneOut { .. } => 19,
         }
     }
+}
+
+impl Fault {
+    // The number of a fault.
+    pub fn number(self) -> u8
+        ensures { result ≡ (fault_listed self).number }
+    {
+        u8::from(self)
+    }
 
     // The place of its first byte, if it stands at one.
     pub fn place(self) -> Option<usize>
@@ -35,11 +44,11 @@ impl Fault {
     {
         match self {
             Fault::HeadingWrong => Some(0),
-            Fault::PairWrong { place } => Some(place),
-            Fault::BlockWrong { place } => Some(place),
-            Fault::ValueWrong { place } => Some(place),
             Fault::SpaceWrong => None,
-            Fault::NotBorneOut { place } => Some(place),
+            Fault::PairWrong { place }
+            | Fault::BlockWrong { place }
+            | Fault::ValueWrong { place }
+            | Fault::NotBorneOut { place } => Some(place),
         }
     }
 }

@@ -4,7 +4,7 @@ ghost use Rattle.archive.specs.Laying.{laid_over};
 ghost use Rattle.archive.specs.Values.{values_bytes};
 ghost use Rattle.archive.specs.Writing.{entries_of, head_right, heads_right, block_of, blocks_of};
 
-use crate::laying::lay;
+use crate::laying::{Part, lay, lay_each};
 use crate::writer::lay_block;
 use kinds::stamp::Stamp;
 use kinds::value::Record;
@@ -25,28 +25,26 @@ pub(crate) fn are_right<S: Stamp>(heads: &[Head<S>], n: usize) -> bool
     heads.iter().all(|h| is_right(*h, n))
 }
 
-// Lays values, one after the other.
+// The written form of a value.
+struct Values;
+
+impl<R: Record> Part<R> for Values {
+    ghost written = { R.Record.kind.form.written };
+
+    fn lay_one(space: &mut [u8], at: usize, item: R) -> usize {
+        let form = item.to_bytes();
+        lay(space, at, &form);
+        at + form.len()
+    }
+}
+
+// Lays values, one after the other; the answer is where they end.
 pub(crate) fn lay_values<R: Record>(space: &mut [u8], at: usize, values: &[R]) -> usize
     requires { at + length (values_bytes R.Record.kind.form values.now) ≤ length space.old }
     ensures space { space.new ≡ laid_over at (values_bytes R.Record.kind.form values.now) space.old }
     ensures next { result ≡ at + length (values_bytes R.Record.kind.form values.now) }
 {
-    let mut here = at;
-    for value in values {
-        here = lay_value(space, here, *value);
-    }
-    here
-}
-
-// Lays a value; the answer is where it ends.
-fn lay_value<R: Record>(space: &mut [u8], at: usize, value: R) -> usize
-    requires { at + length (R.Record.kind.form.written value) ≤ length space.old }
-    ensures space { space.new ≡ laid_over at (R.Record.kind.form.written value) space.old }
-    ensures next { result ≡ at + length (R.Record.kind.form.written value) }
-{
-    let form = value.to_bytes();
-    lay(space, at, &form);
-    at + form.len()
+    lay_each::<Values, _>(space, at, values)
 }
 
 // Lays the block of a job of the journal; the answer is where it ends.

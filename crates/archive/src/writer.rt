@@ -3,9 +3,9 @@ ghost use Rattle.std.specs.Prelude.{◌≡◌, ◌+◌, ◌≤◌, true, length,
 ghost use Rattle.kinds.specs.Bytes.{be2};
 ghost use Rattle.archive.specs.Laying.{laid_over};
 ghost use Rattle.archive.specs.Journal.{look_bytes, put_bytes};
-ghost use Rattle.archive.specs.Laid.{look_count, put_count, front_bytes, block_in, look_of, look_in, put_in_entry, looks_in, puts_in};
+ghost use Rattle.archive.specs.Laid.{look_count, put_count, front_bytes, block_in, look_of, look_in, put_in_entry};
 
-use crate::laying::{lay, lay_both};
+use crate::laying::{Part, lay, lay_both, lay_each};
 use kinds::stamp::Stamp;
 use kinds::value::Record;
 use model::entry::Entry;
@@ -27,64 +27,34 @@ fn lay_seen<S: Stamp, R: Record>(space: &mut [u8], at: usize, number: usize, not
     lay_both(space, at + 2, &noted.to_bytes(), &saw.to_bytes());
 }
 
-// Lays the noted look of an entry, if it is seen; the answer is where the next begins.
-fn lay_look<S: Stamp, R: Record>(space: &mut [u8], at: usize, e: Entry<S, R>) -> usize
-    requires { at + length (look_in S.Stamp.kind.order R.Record.kind.form e) ≤ length space.old }
-    ensures space { space.new ≡ laid_over at (look_in S.Stamp.kind.order R.Record.kind.form e) space.old }
-    ensures next { result ≡ at + length (look_in S.Stamp.kind.order R.Record.kind.form e) }
-{
-    if !e.seen {
-        return at;
+// The noted look of an entry, if it is seen.
+struct Looks;
+
+impl<S: Stamp, R: Record> Part<Entry<S, R>> for Looks {
+    ghost written = { look_in S.Stamp.kind.order R.Record.kind.form };
+
+    fn lay_one(space: &mut [u8], at: usize, item: Entry<S, R>) -> usize {
+        if !item.seen {
+            return at;
+        }
+        lay_seen(space, at, item.number, item.noted, item.saw);
+        at + 22
     }
-    lay_seen(space, at, e.number, e.noted, e.saw);
-    at + 22
 }
 
-// Lays the put of an entry, if it is put; the answer is where the next begins.
-fn lay_put<S: Stamp, R: Record>(space: &mut [u8], at: usize, e: Entry<S, R>) -> usize
-    requires { at + length (put_in_entry S.Stamp.kind.order R.Record.kind.form e) ≤ length space.old }
-    ensures space { space.new ≡ laid_over at (put_in_entry S.Stamp.kind.order R.Record.kind.form e) space.old }
-    ensures next { result ≡ at + length (put_in_entry S.Stamp.kind.order R.Record.kind.form e) }
-{
-    if !e.put {
-        return at;
-    }
-    lay_both(space, at, &two(e.number), &e.wrote.to_bytes());
-    at + 14
-}
+// The put of an entry, if it is put.
+struct Puts;
 
-// Lays the noted looks of some entries; the answer is where they end.
-pub(crate) fn lay_looks<S: Stamp, R: Record>(
-    space: &mut [u8],
-    at: usize,
-    entries: &[Entry<S, R>],
-) -> usize
-    requires { at + length (looks_in S.Stamp.kind.order R.Record.kind.form entries.now) ≤ length space.old }
-    ensures space { space.new ≡ laid_over at (looks_in S.Stamp.kind.order R.Record.kind.form entries.now) space.old }
-    ensures next { result ≡ at + length (looks_in S.Stamp.kind.order R.Record.kind.form entries.now) }
-{
-    let mut here = at;
-    for e in entries {
-        here = lay_look(space, here, *e);
-    }
-    here
-}
+impl<S: Stamp, R: Record> Part<Entry<S, R>> for Puts {
+    ghost written = { put_in_entry S.Stamp.kind.order R.Record.kind.form };
 
-// Lays the puts of some entries; the answer is where they end.
-pub(crate) fn lay_puts<S: Stamp, R: Record>(
-    space: &mut [u8],
-    at: usize,
-    entries: &[Entry<S, R>],
-) -> usize
-    requires { at + length (puts_in S.Stamp.kind.order R.Record.kind.form entries.now) ≤ length space.old }
-    ensures space { space.new ≡ laid_over at (puts_in S.Stamp.kind.order R.Record.kind.form entries.now) space.old }
-    ensures next { result ≡ at + length (puts_in S.Stamp.kind.order R.Record.kind.form entries.now) }
-{
-    let mut here = at;
-    for e in entries {
-        here = lay_put(space, here, *e);
+    fn lay_one(space: &mut [u8], at: usize, item: Entry<S, R>) -> usize {
+        if !item.put {
+            return at;
+        }
+        lay_both(space, at, &two(item.number), &item.wrote.to_bytes());
+        at + 14
     }
-    here
 }
 
 // How many looks and how many puts some entries have.
@@ -121,6 +91,6 @@ pub(crate) fn lay_block<S: Stamp, R: Record>(
 {
     let (looks, puts) = counts(entries);
     lay_front(space, at, stamp, ticket, looks, puts);
-    let middle = lay_looks(space, at + 16, entries);
-    lay_puts(space, middle, entries)
+    let middle = lay_each::<Looks, _>(space, at + 16, entries);
+    lay_each::<Puts, _>(space, middle, entries)
 }
