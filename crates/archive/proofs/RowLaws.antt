@@ -1,11 +1,12 @@
 -- Rows of equally many bytes, and what stands in each.
-use Rattle.std.proofs.Common.{◌≡◌, ℕ, zero, suc, ◌+◌, ◌-◌, ◌*◌, ◌/◌, ◌<◌, ◌≤◌, ◌&&◌, List, ◌∷◌, map, length, get_or, take, drop, is_some, refl, sym, ap, ◌∙◌, mul-suc, mul-zero, arith}
+use Rattle.std.proofs.Common.{◌≡◌, ℕ, zero, suc, ◌+◌, ◌-◌, ◌*◌, ◌/◌, ◌<◌, ◌≤◌, ◌&&◌, List, [], ◌∷◌, map, length, get_or, take, drop, is_some, refl, sym, ap, ◌∙◌, mul-suc, mul-zero, arith}
 use Rattle.std.proofs.Math.Nat.{mul-div_cancel_left}
 use Rattle.std.specs.List.{list_all}
 use Rattle.std.specs.Simd.{first_chunks}
 use Rattle.std.proofs.lemmas.List.{take-take, drop-drop, drop-take, get_or-take}
-use Rattle.kinds.specs.Bytes.{number2, part}
+use Rattle.kinds.specs.Bytes.{number2, number4, part}
 use Rattle.kinds.specs.Stamps.{Order}
+use Rattle.archive.specs.Directory.{stated_length}
 use Rattle.archive.specs.Names.{numbers}
 use Rattle.archive.specs.Blocks.{stamp_at, all_noted}
 use Rattle.archive.proofs.Stands.{part_length}
@@ -66,3 +67,7 @@ row_at n (suc m) at (suc i) bs d h =
 
 pub row_of : (rows : List (List ℕ)) (n m at i : ℕ) (bs : List ℕ) (d : List ℕ) → rows ≡ first_chunks n m (drop at bs) → i < m → get_or rows i d ≡ part bs (at + n * i) n
 row_of rows n m at i bs d e h = ap (λ xs. get_or xs i d) e ∙ row_at n m at i bs d h
+
+-- the length that the pair of a job states
+pub pair_length : (bs : List ℕ) (rows : List (List ℕ)) (m i : ℕ) → rows ≡ first_chunks 8 m (drop 20 bs) → i < m → number4 (part (get_or rows i []) 4 4) ≡ stated_length bs (20 + 8 * i)
+pair_length bs rows m i e h = ap (λ xs. number4 (part xs 4 4)) (row_of rows 8 m 20 i bs [] e h) ∙ ap number4 (in_row 4 4 4 (20 + 8 * i) bs (omega arith))

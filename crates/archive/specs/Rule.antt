@@ -1,15 +1,21 @@
 -- The whole rule: heading, directory, opening values, blocks, and then the play.
-use Rattle.std.specs.Prelude.{ℕ, ◌+◌, ◌*◌, List, Ok, Result}
+use Rattle.std.specs.Prelude.{ℕ, ◌+◌, ◌*◌, List, Ok, Err, Result}
 use Rattle.kinds.specs.Stamps.{Order}
 use Rattle.kinds.specs.Values.{RecordKind}
 use Rattle.archive.specs.declared.fault.Fault.{Fault}
 use Rattle.archive.specs.declared.heading.Heading.{Heading}
+use Rattle.archive.specs.declared.whole.Archive.{Archive}
 use Rattle.archive.specs.Faults.{onward}
 use Rattle.archive.specs.Heading.{read_heading}
 use Rattle.archive.specs.Directory.{read_directory}
 use Rattle.archive.specs.Values.{read_values}
 use Rattle.archive.specs.Blocks.{read_blocks}
 use Rattle.archive.specs.Play.{opening_table, play_jobs}
+
+-- what the heading of an archive states, or the fault
+abbrev pub headed : Result Archive Fault → Result Heading Fault
+headed (Ok a) = Ok a.stated
+headed (Err e) = Err e
 
 module _ {S R : Type 0} (o : Order S) (k : RecordKind R) where
   -- all but the play

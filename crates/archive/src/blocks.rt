@@ -3,12 +3,13 @@ ghost use Rattle.std.specs.Prelude.{◌≡◌, ◌+◌, ◌*◌, ◌<◌, ◌≤
 ghost use Rattle.std.specs.List.{list_all};
 ghost use Rattle.archive.specs.Blocks.{stamp_at, read_front, names_of, read_block, read_blocks};
 
-use crate::directory::{number_at, pair};
+use crate::directory::number_at;
 use crate::fault::Fault;
 use crate::lengths::is_length;
 use crate::names::{gather, names_fit};
 use crate::rows::{form, rows};
 use crate::values::values;
+use crate::whole::Archive;
 use kinds::bounds::before;
 use kinds::stamp::Stamp;
 use kinds::value::Record;
@@ -102,23 +103,17 @@ fn block<S: Stamp, R: Record>(
     Ok(h)
 }
 
-// The blocks of so many jobs, the first of which starts at a place; the answer is where the last ends.
-pub(crate) fn blocks<S: Stamp, R: Record>(
-    bytes: &[u8],
-    n: usize,
-    jobs: usize,
-    first: usize,
-) -> Result<usize, Fault>
-    requires { jobs ≤ 4096 }
-    ensures { result ≡ read_blocks S.Stamp.kind.order R.Record.kind.form bytes.now n 20 first S.Stamp.kind.order.least jobs }
+// The blocks of an archive; the answer is where the last ends.
+pub(crate) fn blocks<S: Stamp, R: Record>(archive: &Archive<'_>) -> Result<usize, Fault>
+    ensures { result ≡ read_blocks S.Stamp.kind.order R.Record.kind.form archive.now.bytes.now archive.now.stated.records 20 (20 + 8 * archive.now.stated.jobs + 12 * archive.now.stated.records) S.Stamp.kind.order.least archive.now.stated.jobs }
 {
     let mut low = S::least();
-    let mut from = first;
-    for i in 0..jobs {
-        let end = pair(bytes, 20 + 8 * i, from, i + 1 == jobs)?;
-        let h = block::<S, R>(bytes, n, from, end - from, low)?;
+    let mut from = archive.first();
+    for pair in archive.pairs() {
+        let len = number_at(pair, 4);
+        let h = block::<S, R>(archive.bytes, archive.stated.records, from, len, low)?;
         low = h.stamp;
-        from = end;
+        from += len;
     }
     Ok(from)
 }

@@ -1,5 +1,5 @@
 // The directory of an archive.
-ghost use Rattle.std.specs.Prelude.{◌≡◌, ◌+◌, ◌*◌, ◌<◌, ◌≤◌, length, OnOk};
+ghost use Rattle.std.specs.Prelude.{◌≡◌, ◌+◌, ◌*◌, ◌<◌, ◌≤◌, true, length, OnOk, is_ok};
 ghost use Rattle.kinds.specs.Bytes.{number4, part};
 ghost use Rattle.archive.specs.Directory.{read_pair, read_pairs, read_directory};
 
@@ -51,6 +51,7 @@ pub(crate) fn directory(bytes: &[u8], records: usize, jobs: usize) -> Result<usi
     requires { (jobs ≤ 4096) × (records ≤ 1024) }
     ensures answer { result ≡ read_directory bytes.now records jobs }
     ensures within { OnOk result (20 + 8 * jobs + 12 * records ≤ length bytes.now) }
+    ensures paired { OnOk result (is_ok (read_pairs bytes.now 20 (20 + 8 * jobs + 12 * records) jobs) ≡ true) }
 {
     let first = pair(bytes, 12, 20 + 8 * jobs, jobs == 0)?;
     if first != 20 + 8 * jobs + 12 * records {

@@ -2,38 +2,39 @@
 ghost use Rattle.std.specs.Prelude.{◌≡◌, ◌+◌, ◌*◌, ◌≤◌, length, IfOk, Ok};
 ghost use Rattle.archive.specs.Values.{read_values};
 ghost use Rattle.archive.specs.Journal.{archive_bytes, stated_opening, stated_journal};
-ghost use Rattle.archive.specs.Rule.{read_archive, inspected};
+ghost use Rattle.archive.specs.Rule.{headed, read_archive, inspected};
 
 use crate::blocks::blocks;
 use crate::directory::directory;
 use crate::fault::Fault;
-use crate::heading::{Heading, read_heading};
+use crate::heading::read_heading;
 use crate::replay::replay;
 use crate::values::values;
+use crate::whole::Archive;
 use kinds::stamp::Stamp;
 use kinds::value::Record;
 
 // Checks all but the play: heading, directory, opening values and blocks.
-pub(crate) fn checked<S: Stamp, R: Record>(bytes: &[u8]) -> Result<Heading, Fault>
-    ensures answer { result ≡ read_archive S.Stamp.kind.order R.Record.kind bytes.now }
-    ensures within { IfOk result (λ h. (h.records ≤ 1024) × (h.jobs ≤ 4096) × (20 + 8 * h.jobs + 12 * h.records ≤ length bytes.now)) }
-    ensures opening { IfOk result (λ h. read_values R.Record.kind.form bytes.now (20 + 8 * h.jobs) 12 h.records ≡ Ok tt) }
+pub(crate) fn checked<S: Stamp, R: Record>(bytes: &[u8]) -> Result<Archive<'_>, Fault>
+    ensures answer { headed result ≡ read_archive S.Stamp.kind.order R.Record.kind bytes.now }
+    ensures bytes { IfOk result (λ a. a.bytes.now ≡ bytes.now) }
+    ensures opening { IfOk result (λ a. read_values R.Record.kind.form bytes.now (20 + 8 * a.stated.jobs) 12 a.stated.records ≡ Ok tt) }
 {
-    let h = read_heading::<S, R>(bytes)?;
-    let _ = directory(bytes, h.records, h.jobs)?;
-    let start = 20 + 8 * h.jobs;
-    values::<R>(bytes, start, 12, h.records)?;
-    let _ = blocks::<S, R>(bytes, h.records, h.jobs, start + 12 * h.records)?;
-    Ok(h)
+    let stated = read_heading::<S, R>(bytes)?;
+    let _ = directory(bytes, stated.records, stated.jobs)?;
+    let archive = Archive { bytes, stated };
+    values::<R>(bytes, archive.start(), 12, stated.records)?;
+    let _ = blocks::<S, R>(&archive)?;
+    Ok(archive)
 }
 
 // The first fault, or the number of jobs.
 fn examine<S: Stamp, R: Record>(bytes: &[u8]) -> Result<usize, Fault>
     ensures { result ≡ inspected S.Stamp.kind.order R.Record.kind bytes.now }
 {
-    let h = checked::<S, R>(bytes)?;
-    replay::<S>(bytes, h.records, h.jobs)?;
-    Ok(h.jobs)
+    let archive = checked::<S, R>(bytes)?;
+    replay::<S>(&archive)?;
+    Ok(archive.stated.jobs)
 }
 
 // The number of jobs of an archive, or its first fault: heading, directory, opening values, blocks, and

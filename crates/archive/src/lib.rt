@@ -15,4 +15,5 @@ pub mod play;
 mod replay;
 mod rows;
 mod values;
+mod whole;
 mod writer;

@@ -10,6 +10,7 @@ use crate::inspect::checked;
 use crate::names::record_at;
 use crate::rows::rows;
 use crate::values::value;
+use crate::whole::Archive;
 use kinds::stamp::Stamp;
 use kinds::value::Record;
 
@@ -69,14 +70,14 @@ fn enter_block<R: Record>(bytes: &[u8], at: usize, space: &mut [R])
     }
 }
 
-// Enters the puts of so many blocks, the first of which starts at a place.
-fn enter_blocks<R: Record>(bytes: &[u8], first: usize, space: &mut [R], jobs: usize)
-    requires { (jobs ≤ 4096) × ((20 + 8 * jobs ≤ length bytes.now) × (first < 100000)) }
-    ensures { space.new ≡ blocks_played R.Record.kind.form bytes.now 20 first space.old jobs }
+// Enters the puts of the first blocks of an archive, so many of them.
+fn enter_blocks<R: Record>(archive: &Archive<'_>, space: &mut [R], jobs: usize)
+    requires { jobs ≤ archive.now.stated.jobs }
+    ensures { space.new ≡ blocks_played R.Record.kind.form archive.now.bytes.now 20 (20 + 8 * archive.now.stated.jobs + 12 * archive.now.stated.records) space.old jobs }
 {
-    let mut from = first;
-    for pair in rows::<8>(bytes, 20, jobs) {
-        enter_block(bytes, from, space);
+    let mut from = archive.first();
+    for pair in rows::<8>(archive.bytes, 20, jobs) {
+        enter_block(archive.bytes, from, space);
         from += number_at(pair, 4);
     }
 }
@@ -88,12 +89,11 @@ pub fn play<S: Stamp, R: Record>(bytes: &[u8], jobs: usize, space: &mut [R]) -> 
     ensures answer { result ≡ play_answer (read_archive S.Stamp.kind.order R.Record.kind bytes.now) (length space.old) jobs }
     ensures leaves { space.new ≡ play_leaves R.Record.kind.form bytes.now (read_archive S.Stamp.kind.order R.Record.kind bytes.now) space.old jobs }
 {
-    let h = checked::<S, R>(bytes)?;
-    if space.len() != h.records || jobs > h.jobs {
+    let archive = checked::<S, R>(bytes)?;
+    if space.len() != archive.stated.records || jobs > archive.stated.jobs {
         return Err(Fault::SpaceWrong);
     }
-    let start = 20 + 8 * h.jobs;
-    load(bytes, start, space)?;
-    enter_blocks(bytes, start + 12 * h.records, space, jobs);
+    load(bytes, archive.start(), space)?;
+    enter_blocks(&archive, space, jobs);
     Ok(())
 }

@@ -4,19 +4,20 @@ ghost use Rattle.archive.specs.Play.{opening_table, look_borne, read_look, read_
 ghost use Rattle.archive.specs.Rule.{read_play};
 
 use crate::blocks::{Opened, front};
-use crate::directory::pair;
+use crate::directory::number_at;
 use crate::fault::Fault;
 use crate::laying::lay_both;
 use crate::names::record_at;
 use crate::rows::{form, rows};
+use crate::whole::Archive;
 use kinds::stamp::Stamp;
 
 // Fills the table: at each record the least stamp and the opening value.
-fn open_table(bytes: &[u8], start: usize, least: &[u8], table: &mut [u8], n: usize)
-    requires { (n ≤ 1024) × ((length least.now ≡ 8) × ((length table.old ≡ 20 * n) × (start + 12 * n ≤ length bytes.now))) }
-    ensures { table.new ≡ opening_table least.now bytes.now start n }
+fn open_table(archive: &Archive<'_>, least: &[u8], table: &mut [u8])
+    requires { (length least.now ≡ 8) × (length table.old ≡ 20 * archive.now.stated.records) }
+    ensures { table.new ≡ opening_table least.now archive.now.bytes.now (20 + 8 * archive.now.stated.jobs) archive.now.stated.records }
 {
-    for (i, value) in rows::<12>(bytes, start, n).iter().enumerate() {
+    for (i, value) in archive.opening().iter().enumerate() {
         lay_both(table, 20 * i, least, value);
     }
 }
@@ -90,36 +91,29 @@ fn play_job<S: Stamp>(
     Ok(())
 }
 
-// Plays so many blocks in turn, the first of which starts at a place.
-fn play_jobs<S: Stamp>(
-    bytes: &[u8],
-    first: usize,
-    table: &mut [u8],
-    jobs: usize,
-) -> Result<(), Fault>
-    requires { jobs ≤ 4096 }
-    ensures { result ≡ play_jobs S.Stamp.kind.order bytes.now 20 first S.Stamp.kind.order.least table.old jobs }
+// Plays the blocks of an archive in turn.
+fn play_jobs<S: Stamp>(archive: &Archive<'_>, table: &mut [u8]) -> Result<(), Fault>
+    ensures { result ≡ play_jobs S.Stamp.kind.order archive.now.bytes.now 20 (20 + 8 * archive.now.stated.jobs + 12 * archive.now.stated.records) S.Stamp.kind.order.least table.old archive.now.stated.jobs }
 {
     let mut low = S::least();
-    let mut from = first;
-    for i in 0..jobs {
-        let end = pair(bytes, 20 + 8 * i, from, i + 1 == jobs)?;
-        let h = front(bytes, from, end - from, low)?;
-        play_job(bytes, from, h, table)?;
+    let mut from = archive.first();
+    for pair in archive.pairs() {
+        let len = number_at(pair, 4);
+        let h = front(archive.bytes, from, len, low)?;
+        play_job(archive.bytes, from, h, table)?;
         low = h.stamp;
-        from = end;
+        from += len;
     }
     Ok(())
 }
 
-// Plays an archive of n records and so many jobs over a table of its own.
-pub(crate) fn replay<S: Stamp>(bytes: &[u8], n: usize, jobs: usize) -> Result<(), Fault>
-    requires { (n ≤ 1024) × ((jobs ≤ 4096) × (20 + 8 * jobs + 12 * n ≤ length bytes.now)) }
-    ensures { result ≡ read_play S.Stamp.kind.order bytes.now n jobs }
+// Plays an archive over a table of its own.
+pub(crate) fn replay<S: Stamp>(archive: &Archive<'_>) -> Result<(), Fault>
+    ensures { result ≡ read_play S.Stamp.kind.order archive.now.bytes.now archive.now.stated.records archive.now.stated.jobs }
 {
     let mut memory = [0u8; 20480];
-    let table = &mut memory[..20 * n];
+    let table = &mut memory[..20 * archive.stated.records];
     let least = S::least().to_bytes();
-    open_table(bytes, 20 + 8 * jobs, &least, table, n);
-    play_jobs::<S>(bytes, 20 + 8 * jobs + 12 * n, table, jobs)
+    open_table(archive, &least, table);
+    play_jobs::<S>(archive, table)
 }
