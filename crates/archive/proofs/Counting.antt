@@ -1,11 +1,9 @@
 -- One turn of a loop over so many places.
 use Rattle.std.proofs.Common.{◌≡◌, ℕ, zero, suc, ◌+◌, ◌-◌, ◌*◌, ◌<◌, ◌≤◌, eqb, List, Ok, Err, Result, sym, ap, ◌∙◌, mul-suc, mul-zero, arith}
 use Rattle.std.proofs.lemmas.Bool.Decides.{nat_tests}
-use Rattle.kinds.specs.Forms.{Form}
 use Rattle.archive.specs.declared.fault.Fault.{Fault}
 use Rattle.archive.specs.Faults.{onward}
 use Rattle.archive.specs.Directory.{read_pair, read_pairs}
-use Rattle.archive.specs.Values.{read_value, read_values}
 
 -- so many steps are left up to the end, of which this holds
 pub record Left (step here end : ℕ) (P : ℕ → Type 0) : Type 0 where
@@ -26,14 +24,6 @@ more {step} {here} {end} {P} l h = by l.steps l.ends l.holds
     by zero e p = absurd (omega (arith, mul-zero step))
     by (suc n) e p = record { after = n; within = omega (arith, mul-suc step n); held = p }
 
--- no step more
-pub no_more : {step here end : ℕ} {P : ℕ → Type 0} → Left step here end P → 0 < step → end ≤ here → P 0
-no_more {step} {here} {end} {P} l s h = by l.steps l.ends l.holds
-  where
-    by : (n : ℕ) → here + step * n ≡ end → P n → P 0
-    by zero e p = p
-    by (suc n) e p = absurd (omega (arith, mul-suc step n))
-
 -- the last step
 pub last_step : {step here end : ℕ} {P : ℕ → Type 0} → More step here end P → 0 < step → end ≤ here + step → P 1
 last_step {step} {here} {end} {P} m s h = by m.after m.within m.held
@@ -45,9 +35,6 @@ last_step {step} {here} {end} {P} m s h = by m.after m.within m.held
 -- what is left is one more than what is left after
 pub left : (n i : ℕ) → i < n → n - i ≡ suc (n - (i + 1))
 left n i h = omega arith
-
-pub stride : (s n i : ℕ) → i < n → s * (n - i) ≡ s * (n - (i + 1)) + s
-stride s n i h = ap (λ m. s * m) (left n i h) ∙ mul-suc s (n - (i + 1))
 
 pub at_left : {Y : Type 0} (F : ℕ → Y) (n i : ℕ) → i < n → F (n - i) ≡ F (suc (n - (i + 1)))
 at_left F n i h = ap F (left n i h)
@@ -73,6 +60,9 @@ pairs_more bs from j i h =
     ∙ ap (λ b. onward (read_pair bs (20 + 8 * i) from b) (λ end. read_pairs bs (20 + 8 * i + 8) end (j - (i + 1)))) (last j i h)
     ∙ ap (λ at. onward (read_pair bs (20 + 8 * i) from (eqb (i + 1) j)) (λ end. read_pairs bs at end (j - (i + 1)))) a
 
-pub values_more : {R : Type 0} (f : Form R) (bs : List ℕ) (at step n i : ℕ) → i < n
-    → read_values f bs at step (n - i) ≡ onward (read_value f bs at) (λ _. read_values f bs (at + step) step (n - (i + 1)))
-values_more f bs at step n i h = at_left (read_values f bs at step) n i h
+-- the pair at a place, the last where the pairs end behind it
+pub pair_next : (bs : List ℕ) (at from end m : ℕ) → at + 8 + 8 * m ≡ end
+    → read_pairs bs at from (suc m) ≡ onward (read_pair bs at from (eqb (at + 8) end)) (λ e. read_pairs bs (at + 8) e m)
+pair_next bs at from end m h =
+    let e : eqb m 0 ≡ eqb (at + 8) end = grind (arith, nat_tests) in
+    ap (λ b. onward (read_pair bs at from b) (λ e. read_pairs bs (at + 8) e m)) e

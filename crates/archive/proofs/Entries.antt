@@ -8,7 +8,7 @@ use Rattle.kinds.specs.Bytes.{be4}
 use Rattle.kinds.specs.Forms.{Form, Formed}
 use Rattle.kinds.specs.Stamps.{Order}
 use Rattle.model.specs.declared.entry.Entry.{Entry}
-use Rattle.law.specs.Daybook.{Look, when, look_first, put_first, line_of, looks_of, puts_of}
+use Rattle.law.specs.Daybook.{when, look_first, put_first, line_of, looks_of, puts_of}
 use Rattle.archive.specs.Laying.{laid_over}
 use Rattle.archive.specs.Journal.{look_bytes, put_bytes}
 use Rattle.archive.specs.Laid.{look_count, put_count, front_bytes, block_in, look_in, put_in_entry, looks_in, puts_in}
@@ -87,11 +87,6 @@ module _ {S R : Type 0} (o : Order S) (f : Form R) where
 pub laid_no : (b : Bool) (xs : List ℕ) → b ≡ false → (at : ℕ) (d : List ℕ) → (d ≡ laid_over at (cond b xs []) d) × (at ≡ at + length (cond b xs []))
 laid_no true xs e at d = let z : ◌≡◌ {A = ℕ} 0 1 = cc in absurd (omega arith)
 laid_no false xs e at d = (sym (laid_none at d), omega arith)
-
-module _ {S R : Type 0} (o : Order S) (f : Form R) (laws : Formed 8 o.form) (formed : Formed 12 f) where
-  pub look_wide : (l : Look S R) → length (look_bytes o f l) ≡ 22
-  look_wide l =
-      let w = formed.wide l.saw.value in let x = laws.wide l.saw.stamp in let a = length-append (o.form.written l.saw.stamp) (f.written l.saw.value) in omega arith
 
 module _ {S R : Type 0} where
   look_more : (e : Entry S R) (es : List (Entry S R)) → look_count (e ∷ es) ≡ cond e.seen (1 + look_count es) (look_count es)

@@ -6,10 +6,6 @@ use Rattle.archive.specs.Laying.{laid_over}
 pub laid_none : (at : ℕ) (d : List ℕ) → laid_over at [] d ≡ d
 laid_none at d = ap (λ n. take at d ++ drop n d) (add-zero at) ∙ take-append-drop at d
 
-pub laid-part : (at k : ℕ) (xs ys d : List ℕ) → ys ≡ xs → k ≡ length xs → take at d ++ (ys ++ drop k (drop at d)) ≡ laid_over at xs d
-laid-part at k xs ys d e h =
-    ap (λ zs. take at d ++ (zs ++ drop k (drop at d))) e ∙ ap (λ n. take at d ++ (xs ++ drop n (drop at d))) h ∙ ap (λ zs. take at d ++ (xs ++ zs)) (drop-drop (length xs) at d)
-
 module _ (at : ℕ) (xs ys d : List ℕ) (h : at + length xs ≤ length d) where
   front : (take at d ++ xs) ++ drop (at + length xs) d ≡ laid_over at xs d
   front = append_assoc (take at d) xs (drop (at + length xs) d)

@@ -1,5 +1,5 @@
 -- The block of a job: its stamp, ticket and sizes in 16 bytes, its looks, and its puts.
-use Rattle.std.specs.Prelude.{ℕ, zero, suc, ◌+◌, ◌-◌, ◌*◌, Bool, true, cond, not, ◌&&◌, List, is_some, Some, None, Ok, Err, Option, Result, ◌==◌, nat_le, slice_index}
+use Rattle.std.specs.Prelude.{ℕ, zero, suc, ◌+◌, ◌-◌, ◌*◌, ◌≤◌, Bool, true, cond, not, ◌&&◌, List, length, is_some, Some, None, Ok, Err, Option, Result, ◌==◌, nat_le, slice_index}
 use Rattle.kinds.specs.Bytes.{number4, part}
 use Rattle.kinds.specs.Forms.{Form}
 use Rattle.kinds.specs.Stamps.{Order}
@@ -35,6 +35,10 @@ with_stamp o bs at len low (Some s) =
 -- the first 16 bytes of a block at a place, of a length, behind a block of a stamp
 abbrev pub read_front : {S : Type 0} → Order S → List ℕ → ℕ → ℕ → S → Result (Opened S) Fault
 read_front o bs at len low = cond (nat_le 16 len) (with_stamp o bs at len low (stamp_at o bs at)) (Err (BlockWrong at))
+
+-- the looks and puts of a block at a place, at most 16 each, are all there
+abbrev pub Whole : {S : Type 0} → List ℕ → ℕ → Opened S → Type 0
+Whole bs at h = (at + 16 + 22 * h.looks + 14 * h.puts ≤ length bs) × (h.looks ≤ 16) × (h.puts ≤ 16)
 
 -- its record numbers, and the stamps of its looks
 abbrev pub names_of : {S : Type 0} → Order S → List ℕ → ℕ → ℕ → ℕ → ℕ → Bool

@@ -1,5 +1,5 @@
 -- The heading: 12 bytes.
-use Rattle.std.specs.Prelude.{ℕ, ◌+◌, ◌*◌, Bool, cond, ◌&&◌, List, ◌∷◌, ◌++◌, length, drop, Ok, Err, Result, ◌==◌, nat_le, slice_index}
+use Rattle.std.specs.Prelude.{ℕ, ◌+◌, ◌*◌, ◌≤◌, Bool, cond, ◌&&◌, List, ◌∷◌, ◌++◌, length, drop, Ok, Err, Result, ◌==◌, nat_le, slice_index}
 use Rattle.kinds.specs.Bytes.{be2, be4}
 use Rattle.archive.specs.declared.fault.Fault.{Fault}
 use Rattle.archive.specs.declared.fault.Fault.TheVariants.{HeadingWrong}
@@ -25,6 +25,9 @@ jobs_in bs = slice_index bs 2 * 16777216 + slice_index bs 3 * 65536 + slice_inde
 -- 1 to 1,024 records, and at most 4,096 jobs
 abbrev pub sizes_right : List ℕ → Bool
 sizes_right bs = nat_le 6 (length bs) && (nat_le 1 (records_in bs) && (nat_le (records_in bs) 1024 && nat_le (jobs_in bs) 4096))
+
+abbrev pub Limited : Heading → Type 0
+Limited h = (h.records ≤ 1024) × (h.jobs ≤ 4096)
 
 abbrev pub read_sizes : List ℕ → Result Heading Fault
 read_sizes bs = cond (sizes_right bs) (Ok (record { records = records_in bs; jobs = jobs_in bs })) (Err HeadingWrong)

@@ -1,7 +1,7 @@
 // The blocks of jobs.
 ghost use Rattle.std.specs.Prelude.{◌≡◌, ◌+◌, ◌*◌, ◌<◌, ◌≤◌, length, IfOk, is_some};
 ghost use Rattle.std.specs.List.{list_all};
-ghost use Rattle.archive.specs.Blocks.{stamp_at, read_front, names_of, read_block, read_blocks};
+ghost use Rattle.archive.specs.Blocks.{Whole, stamp_at, read_front, names_of, read_block, read_blocks};
 
 use crate::directory::number_at;
 use crate::fault::Fault;
@@ -39,7 +39,7 @@ pub(crate) fn front<S: Stamp>(
 ) -> Result<Opened<S>, Fault>
     requires { at + len ≤ length bytes.now }
     ensures answer { result ≡ read_front S.Stamp.kind.order bytes.now at len low }
-    ensures within { IfOk result (λ h. (at + 16 + 22 * h.looks + 14 * h.puts ≤ length bytes.now) × (h.looks ≤ 16) × (h.puts ≤ 16)) }
+    ensures within { IfOk result (Whole bytes.now at) }
 {
     let wrong = Fault::BlockWrong { place: at };
     if len < 16 {
@@ -74,13 +74,13 @@ fn are_noted<S: Stamp>(looks: &[[u8; 22]]) -> bool
 }
 
 // Whether the record numbers of a block, and the stamps of its looks, are right.
-fn names<S: Stamp>(bytes: &[u8], n: usize, at: usize, looks: usize, puts: usize) -> bool
-    requires { (looks ≤ 16) × ((puts ≤ 16) × (at + 16 + 22 * looks + 14 * puts ≤ length bytes.now)) }
-    ensures { result ≡ names_of S.Stamp.kind.order bytes.now n at looks puts }
+fn names<S: Stamp>(bytes: &[u8], n: usize, at: usize, h: Opened<S>) -> bool
+    requires { Whole bytes.now at h }
+    ensures { result ≡ names_of S.Stamp.kind.order bytes.now n at h.looks h.puts }
 {
-    let seen = rows::<22>(bytes, at + 16, looks);
-    let put = rows::<14>(bytes, at + 16 + 22 * looks, puts);
-    names_fit(n, &gather(seen)[..looks], &gather(put)[..puts]) && are_noted::<S>(seen)
+    let looks = rows::<22>(bytes, at + 16, h.looks);
+    let puts = rows::<14>(bytes, at + 16 + 22 * h.looks, h.puts);
+    names_fit(n, &gather(looks)[..h.looks], &gather(puts)[..h.puts]) && are_noted::<S>(looks)
 }
 
 // The whole block: all but the values, then the values.
@@ -95,7 +95,7 @@ fn block<S: Stamp, R: Record>(
     ensures { result ≡ read_block S.Stamp.kind.order R.Record.kind.form bytes.now n at len low }
 {
     let h = front(bytes, at, len, low)?;
-    if !names::<S>(bytes, n, at, h.looks, h.puts) {
+    if !names(bytes, n, at, h) {
         return Err(Fault::BlockWrong { place: at });
     }
     values::<R>(bytes, at + 26, 22, h.looks)?;

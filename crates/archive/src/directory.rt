@@ -1,9 +1,11 @@
 // The directory of an archive.
 ghost use Rattle.std.specs.Prelude.{◌≡◌, ◌+◌, ◌*◌, ◌<◌, ◌≤◌, true, length, OnOk, is_ok};
 ghost use Rattle.kinds.specs.Bytes.{number4, part};
+ghost use Rattle.archive.specs.Heading.{Limited};
 ghost use Rattle.archive.specs.Directory.{read_pair, read_pairs, read_directory};
 
 use crate::fault::Fault;
+use crate::heading::Heading;
 use crate::rows::form;
 
 // The number in the 4 bytes at a place.
@@ -40,22 +42,24 @@ fn pairs(bytes: &[u8], first: usize, jobs: usize) -> Result<usize, Fault>
     ensures { result ≡ read_pairs bytes.now 20 first jobs }
 {
     let mut from = first;
-    for i in 0..jobs {
-        from = pair(bytes, 20 + 8 * i, from, i + 1 == jobs)?;
+    let end = 20 + 8 * jobs;
+    for at in (20..end).step_by(8) {
+        from = pair(bytes, at, from, at + 8 == end)?;
     }
     Ok(from)
 }
 
 // Checks the directory: the pair of the opening values, then those of the jobs.
-pub(crate) fn directory(bytes: &[u8], records: usize, jobs: usize) -> Result<usize, Fault>
-    requires { (jobs ≤ 4096) × (records ≤ 1024) }
-    ensures answer { result ≡ read_directory bytes.now records jobs }
-    ensures within { OnOk result (20 + 8 * jobs + 12 * records ≤ length bytes.now) }
-    ensures paired { OnOk result (is_ok (read_pairs bytes.now 20 (20 + 8 * jobs + 12 * records) jobs) ≡ true) }
+pub(crate) fn directory(bytes: &[u8], stated: Heading) -> Result<usize, Fault>
+    requires { Limited stated }
+    ensures answer { result ≡ read_directory bytes.now stated.records stated.jobs }
+    ensures within { OnOk result (20 + 8 * stated.jobs + 12 * stated.records ≤ length bytes.now) }
+    ensures paired { OnOk result (is_ok (read_pairs bytes.now 20 (20 + 8 * stated.jobs + 12 * stated.records) stated.jobs) ≡ true) }
 {
-    let first = pair(bytes, 12, 20 + 8 * jobs, jobs == 0)?;
-    if first != 20 + 8 * jobs + 12 * records {
+    let start = 20 + 8 * stated.jobs;
+    let first = pair(bytes, 12, start, stated.jobs == 0)?;
+    if first != start + 12 * stated.records {
         return Err(Fault::PairWrong { place: 12 });
     }
-    pairs(bytes, first, jobs)
+    pairs(bytes, first, stated.jobs)
 }

@@ -1,12 +1,13 @@
 // The heading of an archive.
-ghost use Rattle.std.specs.Prelude.{◌≡◌, ◌≤◌, IfOk};
-ghost use Rattle.archive.specs.Heading.{read_sizes, read_heading};
+ghost use Rattle.std.specs.Prelude.{◌≡◌, IfOk};
+ghost use Rattle.archive.specs.Heading.{Limited, read_sizes, read_heading};
 
 use crate::fault::Fault;
 use kinds::stamp::Stamp;
 use kinds::value::Record;
 
-// What a heading states: how many records and how many jobs.
+// What a heading states: how many records and how many jobs. The definitions make one of any two numbers,
+// so its limits are a fact with a name, and no ghost field.
 #[derive(Clone, Copy)]
 pub struct Heading {
     pub records: usize,
@@ -16,7 +17,7 @@ pub struct Heading {
 // Reads the number of records and that of jobs, behind mark and kinds.
 fn sizes(rest: &[u8]) -> Result<Heading, Fault>
     ensures answer { result ≡ read_sizes rest.now }
-    ensures within { IfOk result (λ h. (h.records ≤ 1024) × (h.jobs ≤ 4096)) }
+    ensures within { IfOk result Limited }
 {
     let [n0, n1, j0, j1, j2, j3, ..] = rest else {
         return Err(Fault::HeadingWrong);
@@ -35,15 +36,12 @@ fn sizes(rest: &[u8]) -> Result<Heading, Fault>
 // Reads the heading: the mark, the two kinds, the number of records and that of jobs.
 pub(crate) fn read_heading<S: Stamp, R: Record>(bytes: &[u8]) -> Result<Heading, Fault>
     ensures answer { result ≡ read_heading S.Stamp.kind.order.number R.Record.kind.number bytes.now }
-    ensures within { IfOk result (λ h. (h.records ≤ 1024) × (h.jobs ≤ 4096)) }
+    ensures within { IfOk result Limited }
 {
-    let [b0, b1, b2, b3, kind, rkind, rest @ ..] = bytes else {
+    let [b'A', b'S', b'J', b'1', stamps, values, rest @ ..] = bytes else {
         return Err(Fault::HeadingWrong);
     };
-    if *b0 != 0x41 || *b1 != 0x53 || *b2 != 0x4A || *b3 != 0x31 {
-        return Err(Fault::HeadingWrong);
-    }
-    if *kind != S::number() || *rkind != R::number() {
+    if *stamps != S::number() || *values != R::number() {
         return Err(Fault::HeadingWrong);
     }
     sizes(rest)

@@ -50,7 +50,8 @@ pub(crate) fn names_fit(n: usize, looks: &[u16], puts: &[u16]) -> bool
         && looks.len() + count_beyond(looks, puts) <= 16
 }
 
-// The record numbers of some rows: the first 2 bytes of each.
+// The record numbers of some rows: the first 2 bytes of each. This crate has no heap, so they lie in an array
+// with room for the most that a block has.
 pub(crate) fn gather<const N: usize>(rows: &[[u8; N]]) -> [u16; 16]
     requires { (2 ≤ N) × (length rows.now ≤ 16) }
     ensures { take (length rows.now) result ≡ map number2 rows.now }

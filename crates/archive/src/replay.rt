@@ -1,5 +1,6 @@
 // The play of an archive over a table of what stands at each record.
 ghost use Rattle.std.specs.Prelude.{◌≡◌, ◌+◌, ◌*◌, ◌<◌, ◌≤◌, length};
+ghost use Rattle.archive.specs.Blocks.{Whole};
 ghost use Rattle.archive.specs.Play.{opening_table, look_borne, read_look, read_looks, entered, puts_after, by_answer, play_jobs};
 ghost use Rattle.archive.specs.Rule.{read_play};
 
@@ -82,7 +83,7 @@ fn play_job<S: Stamp>(
     h: Opened<S>,
     table: &mut [u8],
 ) -> Result<(), Fault>
-    requires { (h.looks ≤ 16) × (from + 16 + 22 * h.looks + 14 * h.puts ≤ length bytes.now) }
+    requires { Whole bytes.now from h }
     ensures answer { result ≡ read_looks bytes.now (from + 16) table.old h.looks }
     ensures leaves { table.new ≡ by_answer result (puts_after bytes.now from (from + 16 + 22 * h.looks) table.old h.puts) table.old }
 {
@@ -107,7 +108,8 @@ fn play_jobs<S: Stamp>(archive: &Archive<'_>, table: &mut [u8]) -> Result<(), Fa
     Ok(())
 }
 
-// Plays an archive over a table of its own.
+// Plays an archive over a table of its own: one list of bytes, as the definitions have it. Rows of 20 would
+// have to be joined in every contract here.
 pub(crate) fn replay<S: Stamp>(archive: &Archive<'_>) -> Result<(), Fault>
     ensures { result ≡ read_play S.Stamp.kind.order archive.now.bytes.now archive.now.stated.records archive.now.stated.jobs }
 {

@@ -1,6 +1,7 @@
 // An archive whose directory is right.
 ghost use Rattle.std.specs.Prelude.{◌≡◌, ◌+◌, ◌*◌, ◌≤◌, true, length, drop, is_ok};
 ghost use Rattle.std.specs.Simd.{first_chunks};
+ghost use Rattle.archive.specs.Heading.{Limited};
 ghost use Rattle.archive.specs.Directory.{read_pairs};
 
 use crate::heading::Heading;
@@ -12,7 +13,7 @@ use crate::rows::rows;
 pub(crate) struct Archive<'a> {
     pub bytes: &'a [u8],
     pub stated: Heading,
-    ghost small: { (stated.records ≤ 1024) × (stated.jobs ≤ 4096) },
+    ghost limited: { Limited stated },
     ghost long: { 20 + 8 * stated.jobs + 12 * stated.records ≤ length bytes.now },
     ghost paired: { is_ok (read_pairs bytes.now 20 (20 + 8 * stated.jobs + 12 * stated.records) stated.jobs) ≡ true },
 }

@@ -14,8 +14,8 @@ use model::entry::Entry;
 fn two(n: usize) -> [u8; 2]
     ensures { result ≡ be2 n }
 {
-    let [_, _, _, _, _, _, a, b] = n.to_be_bytes();
-    [a, b]
+    let [.., high, low] = n.to_be_bytes();
+    [high, low]
 }
 
 // Lays a look: record, noted stamp and value.

@@ -22,15 +22,15 @@ pub returns-then-names_fit : goal.returns-then-names_fit
 returns-then-names_fit g c =
     let o = g.S.Stamp.kind.order in
     let bs = c.args.bytes.now in
-    let f = c.names_fit.ensures ∙ fits bs c.gather.result c.gather-2.result c.args.n c.args.at c.args.looks c.args.puts c.rows-seen.result.now c.rows-put.result.now
-    c.rows-seen.ensures.rows c.rows-seen.ensures.many c.gather.ensures c.rows-put.ensures.rows c.rows-put.ensures.many c.gather-2.ensures in
-    c.are_noted.ensures ∙ ap (list_all (λ row. is_some (stamp_at o row 2))) c.rows-seen.ensures.rows ∙ noted_rows o c.args.looks (c.args.at + 16) bs
-    ∙ sym (ap (λ b. b && all_noted o bs (c.args.at + 16) c.args.looks) (sym f ∙ c.if-names_fit.true))
+    let f = c.names_fit.ensures ∙ fits bs c.gather.result c.gather-2.result c.args.n c.args.at c.args.h.looks c.args.h.puts c.rows-looks.result.now c.rows-puts.result.now
+    c.rows-looks.ensures.rows c.rows-looks.ensures.many c.gather.ensures c.rows-puts.ensures.rows c.rows-puts.ensures.many c.gather-2.ensures in
+    c.are_noted.ensures ∙ ap (list_all (λ row. is_some (stamp_at o row 2))) c.rows-looks.ensures.rows ∙ noted_rows o c.args.h.looks (c.args.at + 16) bs
+    ∙ sym (ap (λ b. b && all_noted o bs (c.args.at + 16) c.args.h.looks) (sym f ∙ c.if-names_fit.true))
 
 pub returns-else-names_fit : goal.returns-else-names_fit
 returns-else-names_fit g c =
     let o = g.S.Stamp.kind.order in
     let bs = c.args.bytes.now in
-    let f = c.names_fit.ensures ∙ fits bs c.gather.result c.gather-2.result c.args.n c.args.at c.args.looks c.args.puts c.rows-seen.result.now c.rows-put.result.now
-    c.rows-seen.ensures.rows c.rows-seen.ensures.many c.gather.ensures c.rows-put.ensures.rows c.rows-put.ensures.many c.gather-2.ensures in
-    c.if-names_fit.false ∙ sym (ap (λ b. b && all_noted o bs (c.args.at + 16) c.args.looks) (sym f ∙ c.if-names_fit.false))
+    let f = c.names_fit.ensures ∙ fits bs c.gather.result c.gather-2.result c.args.n c.args.at c.args.h.looks c.args.h.puts c.rows-looks.result.now c.rows-puts.result.now
+    c.rows-looks.ensures.rows c.rows-looks.ensures.many c.gather.ensures c.rows-puts.ensures.rows c.rows-puts.ensures.many c.gather-2.ensures in
+    c.if-names_fit.false ∙ sym (ap (λ b. b && all_noted o bs (c.args.at + 16) c.args.h.looks) (sym f ∙ c.if-names_fit.false))

@@ -1,14 +1,8 @@
-use Rattle.std.proofs.Common.{◌≡◌, ◌+◌, ◌++◌, length, ap, ◌∙◌, arith}
+use Rattle.std.proofs.Common.{◌+◌, ◌++◌, ap, ◌∙◌, arith}
 use Rattle.kinds.specs.Bytes.{be2}
 use Rattle.archive.specs.Laying.{laid_over}
 use Rattle.archive.proofs.Laid.{laid_next}
 use Rattle.archive.proofs.writer.lay_seen.Goals as goal
-
-pub lay_both-requires : goal.lay_both-requires
-lay_both-requires g c =
-    let a : length c.to_bytes.result ≡ 8 = ap length c.to_bytes.ensures ∙ g.met.S.Stamp.lawful.ordered.formed.wide c.args.noted in
-    let b : length c.to_bytes-2.result ≡ 12 = ap length c.to_bytes-2.ensures ∙ g.met.R.Record.written.wide c.args.saw in
-    omega (arith, a, b)
 
 pub returns : goal.returns
 returns g c =
