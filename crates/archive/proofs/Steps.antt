@@ -1,8 +1,8 @@
 -- One turn of the loop over blocks.
-use Rattle.std.proofs.Common.{◌≡◌, ℕ, ◌+◌, ◌-◌, ◌*◌, ◌<◌, ◌≤◌, Bool, true, false, cond, eqb, leb, List, [], length, get_or, drop, Ok, Err, Result, refl, sym, ap, ◌∙◌, arith}
+use Rattle.std.proofs.Common.{◌≡◌, ℕ, zero, suc, ◌+◌, ◌-◌, ◌*◌, ◌<◌, ◌≤◌, Bool, true, false, cond, eqb, leb, List, [], length, get_or, drop, Ok, Err, Result, refl, sym, ap, ◌∙◌, arith}
 use Rattle.std.specs.Prelude.{is_ok}
 use Rattle.std.specs.Simd.{first_chunks}
-use Rattle.std.proofs.lemmas.Bool.{and_parts, leb-true}
+use Rattle.std.proofs.lemmas.Bool.{and_parts, leb-true, eqb-true}
 use Rattle.kinds.specs.Bytes.{number4, part}
 use Rattle.kinds.specs.Stamps.{Order}
 use Rattle.kinds.specs.Forms.{Form}
@@ -13,6 +13,7 @@ use Rattle.archive.specs.Directory.{stated_length, pair_right, read_pair, read_p
 use Rattle.archive.specs.Blocks.{read_block, read_blocks}
 use Rattle.archive.proofs.Counting.{at_left, last, pairs_more}
 use Rattle.archive.proofs.RowLaws.{pair_length}
+use Rattle.archive.proofs.Fields.{guarded, bound, ok_same}
 
 -- the pair of a job, where the pairs from it on are right
 pub pair_met : (bs : List ℕ) (at from : ℕ) (l : Bool) (k : ℕ → Result ℕ Fault) → is_ok (onward (read_pair bs at from l) k) ≡ true
@@ -55,3 +56,24 @@ blocks_more k f bs n i j at low h =
     at_left (read_blocks k f bs n (20 + 8 * i) at low) j i h
     ∙ ap (λ b. onward (read_pair bs (20 + 8 * i) at b) (λ end. onward (read_block k f bs n at (end - at) low) (λ h. read_blocks k f bs n (20 + 8 * i + 8) end h.stamp (j - (i + 1))))) (last j i h)
     ∙ ap (λ m. onward (read_pair bs (20 + 8 * i) at (eqb (i + 1) j)) (λ end. onward (read_block k f bs n at (end - at) low) (λ h. read_blocks k f bs n m end h.stamp (j - (i + 1))))) a
+
+-- the last pair's part ends with the archive
+pair_ends : (bs : List ℕ) (at from e : ℕ) → Ok e ≡ read_pair bs at from true → e ≡ length bs
+pair_ends bs at from e q =
+    let g = guarded (pair_right bs at from true) (Ok (from + stated_length bs at)) (PairWrong at) e (sym q) in
+    let a = and_parts (leb (at + 8) (length bs)) _ g.0 in
+    let b = and_parts (eqb (number4 (part bs at 4)) from) _ a.1 in
+    let c = and_parts (leb (from + stated_length bs at) (length bs)) _ b.1 in
+    sym (ok_same _ _ g.1) ∙ eqb-true _ _ c.1
+
+pairs_end : (bs : List ℕ) (m dir at e : ℕ) → Ok e ≡ read_pairs bs dir at (suc m) → e ≡ length bs
+pairs_end bs zero dir at e q =
+    let b = bound (read_pair bs dir at true) (λ x. Ok x) e (sym q) in
+    sym (ok_same b.0 e b.2) ∙ pair_ends bs dir at b.0 (sym b.1)
+pairs_end bs (suc m) dir at e q =
+    let b = bound (read_pair bs dir at (eqb (suc m) 0)) (λ x. read_pairs bs (dir + 8) x (suc m)) e (sym q) in
+    pairs_end bs m (dir + 8) b.0 e (sym b.2)
+
+pub all_end : (bs : List ℕ) (j start first e : ℕ) → Ok first ≡ read_pair bs 12 start (eqb j 0) → Ok e ≡ read_pairs bs 20 first j → e ≡ length bs
+all_end bs zero start first e p q = ok_same e first q ∙ pair_ends bs 12 start first p
+all_end bs (suc m) start first e p q = pairs_end bs m 20 first e q

@@ -1,5 +1,5 @@
 -- The whole rule: heading, directory, opening values, blocks, and then the play.
-use Rattle.std.specs.Prelude.{ℕ, ◌+◌, ◌*◌, List, Ok, Err, Result}
+use Rattle.std.specs.Prelude.{ℕ, ◌+◌, ◌*◌, List, length, Ok, Err, Result}
 use Rattle.kinds.specs.Stamps.{Order}
 use Rattle.kinds.specs.Values.{RecordKind}
 use Rattle.archive.specs.declared.fault.Fault.{Fault}
@@ -16,6 +16,11 @@ use Rattle.archive.specs.Play.{opening_table, play_jobs}
 abbrev pub headed : Result Archive Fault → Result Heading Fault
 headed (Ok a) = Ok a.stated
 headed (Err e) = Err e
+
+-- where an archive ends, or the fault
+abbrev pub ended : Result Archive Fault → Result ℕ Fault
+ended (Ok a) = Ok (length a.bytes.now)
+ended (Err e) = Err e
 
 module _ {S R : Type 0} (o : Order S) (k : RecordKind R) where
   -- all but the play

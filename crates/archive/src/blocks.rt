@@ -45,17 +45,15 @@ pub(crate) fn front<S: Stamp>(
     if len < 16 {
         return Err(wrong);
     }
-    let Some(s) = stamp::<S>(bytes, at) else {
-        return Err(wrong);
-    };
+    let s = stamp::<S>(bytes, at).ok_or(wrong)?;
     if !before(S::least(), s) || before(s, low) || number_at(bytes, at + 8) < 1 {
         return Err(wrong);
     }
-    if bytes[at + 14] != 0 || bytes[at + 15] != 0 {
+    let [looks, puts, 0, 0] = form::<4>(bytes, at + 12) else {
         return Err(wrong);
-    }
-    let looks = usize::from(bytes[at + 12]);
-    let puts = usize::from(bytes[at + 13]);
+    };
+    let looks = usize::from(looks);
+    let puts = usize::from(puts);
     if !is_length(looks, puts, len) {
         return Err(wrong);
     }

@@ -1,12 +1,14 @@
 // The directory of an archive.
-ghost use Rattle.std.specs.Prelude.{◌≡◌, ◌+◌, ◌*◌, ◌<◌, ◌≤◌, true, length, OnOk, is_ok};
+ghost use Rattle.std.specs.Prelude.{◌≡◌, ◌+◌, ◌*◌, ◌<◌, ◌≤◌, length, IfOk};
 ghost use Rattle.kinds.specs.Bytes.{number4, part};
 ghost use Rattle.archive.specs.Heading.{Limited};
+ghost use Rattle.archive.specs.Rule.{ended};
 ghost use Rattle.archive.specs.Directory.{read_pair, read_pairs, read_directory};
 
 use crate::fault::Fault;
 use crate::heading::Heading;
 use crate::rows::form;
+use crate::whole::Archive;
 
 // The number in the 4 bytes at a place.
 pub(crate) fn number_at(bytes: &[u8], at: usize) -> usize
@@ -49,17 +51,17 @@ fn pairs(bytes: &[u8], first: usize, jobs: usize) -> Result<usize, Fault>
     Ok(from)
 }
 
-// Checks the directory: the pair of the opening values, then those of the jobs.
-pub(crate) fn directory(bytes: &[u8], stated: Heading) -> Result<usize, Fault>
+// Checks the directory: the pair of the opening values, then those of the jobs. The last part ends with the archive.
+pub(crate) fn directory(bytes: &[u8], stated: Heading) -> Result<Archive<'_>, Fault>
     requires { Limited stated }
-    ensures answer { result ≡ read_directory bytes.now stated.records stated.jobs }
-    ensures within { OnOk result (20 + 8 * stated.jobs + 12 * stated.records ≤ length bytes.now) }
-    ensures paired { OnOk result (is_ok (read_pairs bytes.now 20 (20 + 8 * stated.jobs + 12 * stated.records) stated.jobs) ≡ true) }
+    ensures answer { ended result ≡ read_directory bytes.now stated.records stated.jobs }
+    ensures archive { IfOk result (λ a. (a.bytes.now ≡ bytes.now) × (a.stated ≡ stated)) }
 {
     let start = 20 + 8 * stated.jobs;
     let first = pair(bytes, 12, start, stated.jobs == 0)?;
     if first != start + 12 * stated.records {
         return Err(Fault::PairWrong { place: 12 });
     }
-    pairs(bytes, first, stated.jobs)
+    let _ = pairs(bytes, first, stated.jobs)?;
+    Ok(Archive { bytes, stated })
 }

@@ -21,8 +21,7 @@ pub(crate) fn checked<S: Stamp, R: Record>(bytes: &[u8]) -> Result<Archive<'_>, 
     ensures opening { IfOk result (λ a. read_values R.Record.kind.form bytes.now (20 + 8 * a.stated.jobs) 12 a.stated.records ≡ Ok tt) }
 {
     let stated = read_heading::<S, R>(bytes)?;
-    let _ = directory(bytes, stated)?;
-    let archive = Archive { bytes, stated };
+    let archive = directory(bytes, stated)?;
     values::<R>(bytes, archive.start(), 12, stated.records)?;
     let _ = blocks::<S, R>(&archive)?;
     Ok(archive)

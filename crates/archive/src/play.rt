@@ -8,7 +8,7 @@ use crate::directory::number_at;
 use crate::fault::Fault;
 use crate::inspect::checked;
 use crate::names::record_at;
-use crate::rows::rows;
+use crate::rows::{form, rows};
 use crate::values::value;
 use crate::whole::Archive;
 use kinds::stamp::Stamp;
@@ -63,8 +63,7 @@ fn enter_block<R: Record>(bytes: &[u8], at: usize, space: &mut [R])
     if at + 16 > bytes.len() {
         return;
     }
-    let looks = usize::from(bytes[at + 12]);
-    let puts = usize::from(bytes[at + 13]);
+    let [looks, puts] = form::<2>(bytes, at + 12).map(usize::from);
     if at + (16 + 22 * looks + 14 * puts) <= bytes.len() {
         enter_puts(bytes, at + 16 + 22 * looks, space, puts);
     }
