@@ -26,6 +26,7 @@ jobs_in bs = slice_index bs 2 * 16777216 + slice_index bs 3 * 65536 + slice_inde
 abbrev pub sizes_right : List ℕ → Bool
 sizes_right bs = nat_le 6 (length bs) && (nat_le 1 (records_in bs) && (nat_le (records_in bs) 1024 && nat_le (jobs_in bs) 4096))
 
+-- the upper limits alone
 abbrev pub Limited : Heading → Type 0
 Limited h = (h.records ≤ 1024) × (h.jobs ≤ 4096)
 

@@ -14,7 +14,7 @@ pub enum Fault {
     NotBorneOut { place: usize },
 }
 
-// The number of a fault.
+// The number of a fault. Most cases have a place, so that none has its number as its discriminant.
 impl From<Fault> for u8 {
     ghost from_gives = { λ fault n. n ≡ (fault_listed fault).number };
 

@@ -20,14 +20,14 @@ fn load<R: Record>(bytes: &[u8], at: usize, space: &mut [R]) -> Result<(), Fault
     ensures answer { result ≡ read_values R.Record.kind.form bytes.now at 12 (length space.old) }
     ensures filled { OnOk result (space.new ≡ stated_values R.Record.kind.form bytes.now at 12 (length space.old)) }
 {
-    for i in 0..space.len() {
-        let v = value::<R>(bytes, at + 12 * i)?;
-        space[i] = v;
+    for (i, place) in space.iter_mut().enumerate() {
+        *place = value(bytes, at + 12 * i)?;
     }
     Ok(())
 }
 
-// Enters a value at a record, if the space has it.
+// Enters a value at a record, if the space has it. By index, since the check does not follow what is written
+// through `get_mut` at a type of any kind.
 fn enter_at<R: Record>(space: &mut [R], x: usize, v: R)
     ensures { space.new ≡ slice_set space.old x v }
 {
