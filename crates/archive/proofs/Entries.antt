@@ -1,60 +1,16 @@
 -- Looks and puts laid one after the other.
-use Rattle.std.proofs.Common.{◌≡◌, ℕ, ◌+◌, ◌<◌, ◌≤◌, Bool, true, false, cond, List, [], ◌∷◌, ◌++◌, map, length, get_or, drop, sym, refl, ap, ◌∙◌, arith}
+use Rattle.std.proofs.Common.{◌≡◌, ℕ, ◌+◌, Bool, true, false, cond, List, [], ◌∷◌, ◌++◌, map, length, sym, refl, ap, ◌∙◌, arith}
 use Rattle.std.specs.Prelude.{count_by}
 use Rattle.std.specs.List.{flat_map}
 use Rattle.std.proofs.lemmas.List.Recursion.{is_count_by}
-use Rattle.std.proofs.lemmas.List.{at_drop_more, at_drop_all, length-append, append_assoc}
+use Rattle.std.proofs.lemmas.List.{length-append, append_assoc}
 use Rattle.kinds.specs.Bytes.{be4}
 use Rattle.kinds.specs.Forms.{Form, Formed}
 use Rattle.kinds.specs.Stamps.{Order}
 use Rattle.model.specs.declared.entry.Entry.{Entry}
 use Rattle.law.specs.Daybook.{when, look_first, put_first, line_of, looks_of, puts_of}
-use Rattle.archive.specs.Laying.{laid_over}
 use Rattle.archive.specs.Journal.{look_bytes, put_bytes}
 use Rattle.archive.specs.Laid.{look_count, put_count, front_bytes, block_in, look_in, put_in_entry, looks_in, puts_in}
-use Rattle.archive.proofs.Laid.{laid_on, laid_none}
-
--- what is left, laid here, is what was to be laid
-pub record Left {E : Type 0} (F : List E → List ℕ) (es : List E) (at here i : ℕ) (d e : List ℕ) : Type 0 where
-  pub rest : laid_over here (F (drop i es)) e ≡ laid_over at (F es) d
-  pub ends : here + length (F (drop i es)) ≡ at + length (F es)
-
-module _ {E : Type 0} (F : List E → List ℕ) (one : E → List ℕ) (more : (x : E) (xs : List E) → F (x ∷ xs) ≡ one x ++ F xs) (es : List E) where
-  split : (i : ℕ) (x : E) → i < length es → x ≡ get_or es i x → F (drop i es) ≡ one x ++ F (drop (i + 1) es)
-  split i x h r = at_drop_more F es i x h ∙ ap (λ y. F (y ∷ drop (i + 1) es)) (sym r) ∙ more x (drop (i + 1) es)
-
-  -- room for what is next
-  pub room : (at here i : ℕ) (d e : List ℕ) (x : E) → i < length es → x ≡ get_or es i x → Left F es at here i d e → at + length (F es) ≤ length e → here + length (one x) ≤ length e
-  room at here i d e x h r l w =
-      let s : length (F (drop i es)) ≡ length (one x ++ F (drop (i + 1) es)) = ap length (split i x h r) in
-      let a = length-append (one x) (F (drop (i + 1) es)) in
-      let n = l.ends in
-      omega arith
-
-  pub again : (at here next i : ℕ) (d e e' : List ℕ) (x : E) → i < length es → x ≡ get_or es i x → Left F es at here i d e → at + length (F es) ≤ length e
-      → e' ≡ laid_over here (one x) e → next ≡ here + length (one x) → Left F es at next (i + 1) d e'
-  again at here next i d e e' x h r l w p q =
-      let s : F (drop i es) ≡ one x ++ F (drop (i + 1) es) = split i x h r in
-      let k : here + length (one x) ≤ length e = room at here i d e x h r l w in
-      let a = length-append (one x) (F (drop (i + 1) es)) in
-      let sl : length (F (drop i es)) ≡ length (one x ++ F (drop (i + 1) es)) = ap length s in
-      let n = l.ends in
-      record {
-        rest =
-            ap (λ m. laid_over m (F (drop (i + 1) es)) e') q ∙ ap (laid_over (here + length (one x)) (F (drop (i + 1) es))) p
-            ∙ laid_on here (one x) (F (drop (i + 1) es)) e k ∙ ap (λ zs. laid_over here zs e) (sym s) ∙ l.rest;
-        ends = omega arith;
-      }
-
-  pub begins : (at : ℕ) (d : List ℕ) → Left F es at at 0 d d
-  begins at d = record { rest = refl; ends = refl }
-
-  pub done : (at here i : ℕ) (d e : List ℕ) → F [] ≡ [] → length es ≤ i → Left F es at here i d e → (e ≡ laid_over at (F es) d) × (here ≡ at + length (F es))
-  done at here i d e z h l =
-      let n : F (drop i es) ≡ [] = at_drop_all F es i h ∙ z in
-      let k : length (F (drop i es)) ≡ 0 = ap length n in
-      let x = l.ends in
-      (sym (laid_none here e) ∙ ap (λ zs. laid_over here zs e) (sym n) ∙ l.rest, omega arith)
 
 module _ {S R : Type 0} (o : Order S) (f : Form R) where
   pub looks_first : (e : Entry S R) (es : List (Entry S R)) → looks_in o f (e ∷ es) ≡ look_in o f e ++ looks_in o f es
@@ -83,11 +39,6 @@ module _ {S R : Type 0} (o : Order S) (f : Form R) where
   puts_laid [] = refl
   puts_laid (e ∷ es) = ap (λ xs. put_in_entry o f e ++ xs) (puts_laid es) ∙ sym (puts_first o f e es)
 
--- nothing laid
-pub laid_no : (b : Bool) (xs : List ℕ) → b ≡ false → (at : ℕ) (d : List ℕ) → (d ≡ laid_over at (cond b xs []) d) × (at ≡ at + length (cond b xs []))
-laid_no true xs e at d = let z : ◌≡◌ {A = ℕ} 0 1 = cc in absurd (omega arith)
-laid_no false xs e at d = (sym (laid_none at d), omega arith)
-
 module _ {S R : Type 0} where
   look_more : (e : Entry S R) (es : List (Entry S R)) → look_count (e ∷ es) ≡ cond e.seen (1 + look_count es) (look_count es)
   look_more e es = by e.seen
@@ -112,10 +63,8 @@ module _ {S R : Type 0} where
 
 -- a block is its first 16 bytes, its looks and its puts
 module _ {S R : Type 0} (o : Order S) (f : Form R) (s : S) (ticket : ℕ) (es : List (Entry S R)) where
-  pub block_split : (front_bytes o s ticket (look_count es) (put_count es) ++ looks_in o f es) ++ puts_in o f es ≡ block_in o f s ticket es
-  block_split =
-      append_assoc (front_bytes o s ticket (look_count es) (put_count es)) (looks_in o f es) (puts_in o f es)
-      ∙ append_assoc (o.form.written s) (be4 ticket ++ (look_count es ∷ put_count es ∷ 0 ∷ 0 ∷ [])) (looks_in o f es ++ puts_in o f es)
+  pub block_split : front_bytes o s ticket (look_count es) (put_count es) ++ (looks_in o f es ++ puts_in o f es) ≡ block_in o f s ticket es
+  block_split = append_assoc (o.form.written s) (be4 ticket ++ (look_count es ∷ put_count es ∷ 0 ∷ 0 ∷ [])) (looks_in o f es ++ puts_in o f es)
 
   pub front_wide : Formed 8 o.form → (r p : ℕ) → length (front_bytes o s ticket r p) ≡ 16
   front_wide laws r p = let w = laws.wide s in let a = length-append (o.form.written s) (be4 ticket ++ (r ∷ p ∷ 0 ∷ 0 ∷ [])) in omega arith
@@ -124,6 +73,6 @@ module _ {S R : Type 0} (o : Order S) (f : Form R) (s : S) (ticket : ℕ) (es : 
   block_long laws =
       let e = ap length block_split in
       let w = front_wide laws (look_count es) (put_count es) in
-      let a = length-append (front_bytes o s ticket (look_count es) (put_count es) ++ looks_in o f es) (puts_in o f es) in
-      let b = length-append (front_bytes o s ticket (look_count es) (put_count es)) (looks_in o f es) in
+      let a = length-append (front_bytes o s ticket (look_count es) (put_count es)) (looks_in o f es ++ puts_in o f es) in
+      let b = length-append (looks_in o f es) (puts_in o f es) in
       omega arith

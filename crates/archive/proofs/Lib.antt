@@ -2,6 +2,7 @@ mod LengthTable
 pub mod Counting
 mod Steps
 pub mod Laid
+pub mod Pens
 mod Plays
 mod Entering
 pub mod Stands

@@ -13,3 +13,4 @@ pub mod Journal
 pub mod Theorems
 pub mod Laid
 pub mod Writing
+pub mod Pens

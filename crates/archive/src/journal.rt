@@ -1,10 +1,10 @@
 // Lays the jobs of a registrar's journal into a space.
 ghost use Rattle.std.specs.Prelude.{◌≡◌, ◌+◌, ◌*◌, ◌<◌, ◌≤◌, true, length};
-ghost use Rattle.archive.specs.Laying.{laid_over};
+ghost use Rattle.archive.specs.Pens.{HasRoom, Lays};
 ghost use Rattle.archive.specs.Values.{values_bytes};
 ghost use Rattle.archive.specs.Writing.{entries_of, head_right, heads_right, block_of, blocks_of};
 
-use crate::laying::{Part, lay, lay_each};
+use crate::laying::{Part, Pen, lay_each};
 use crate::writer::lay_block;
 use kinds::stamp::Stamp;
 use kinds::value::Record;
@@ -31,33 +31,24 @@ struct Values;
 impl<R: Record> Part<R> for Values {
     ghost written = { R.Record.kind.form.written };
 
-    fn lay_one(space: &mut [u8], at: usize, item: R) -> usize {
-        let form = item.to_bytes();
-        lay(space, at, &form);
-        at + form.len()
+    fn lay_one(pen: &mut Pen<'_>, item: R) {
+        pen.lay(&item.to_bytes());
     }
 }
 
-// Lays values, one after the other; the answer is where they end.
-pub(crate) fn lay_values<R: Record>(space: &mut [u8], at: usize, values: &[R]) -> usize
-    requires { at + length (values_bytes R.Record.kind.form values.now) ≤ length space.old }
-    ensures space { space.new ≡ laid_over at (values_bytes R.Record.kind.form values.now) space.old }
-    ensures next { result ≡ at + length (values_bytes R.Record.kind.form values.now) }
+// Lays values, one after the other.
+pub(crate) fn lay_values<R: Record>(pen: &mut Pen<'_>, values: &[R])
+    requires { HasRoom pen.old (length (values_bytes R.Record.kind.form values.now)) }
+    ensures { Lays pen.old (values_bytes R.Record.kind.form values.now) pen.new }
 {
-    lay_each::<Values, _>(space, at, values)
+    lay_each::<Values, _>(pen, values);
 }
 
-// Lays the block of a job of the journal; the answer is where it ends.
-fn lay_job<S: Stamp, R: Record>(
-    space: &mut [u8],
-    at: usize,
-    h: Head<S>,
-    lines: &[Entry<S, R>],
-) -> usize
-    requires { (h.count ≤ 16) × ((16 * h.place + 16 ≤ length lines.now) × (at + length (block_of S.Stamp.kind.order R.Record.kind.form lines.now h) ≤ length space.old)) }
-    ensures space { space.new ≡ laid_over at (block_of S.Stamp.kind.order R.Record.kind.form lines.now h) space.old }
-    ensures next { result ≡ at + length (block_of S.Stamp.kind.order R.Record.kind.form lines.now h) }
+// Lays the block of a job of the journal.
+fn lay_job<S: Stamp, R: Record>(pen: &mut Pen<'_>, h: Head<S>, lines: &[Entry<S, R>])
+    requires { (h.count ≤ 16) × ((16 * h.place + 16 ≤ length lines.now) × HasRoom pen.old (length (block_of S.Stamp.kind.order R.Record.kind.form lines.now h))) }
+    ensures { Lays pen.old (block_of S.Stamp.kind.order R.Record.kind.form lines.now h) pen.new }
 {
     let start = 16 * h.place;
-    lay_block(space, at, h.stamp, h.ticket, &lines[start..start + h.count])
+    lay_block(pen, h.stamp, h.ticket, &lines[start..start + h.count]);
 }

@@ -1,46 +1,52 @@
-// Bytes laid over others.
-ghost use Rattle.std.specs.Prelude.{◌≡◌, ℕ, ◌+◌, ◌≤◌, List, ◌++◌, length};
+// A pen that lays forms over the bytes of a space.
+ghost use Rattle.std.specs.Prelude.{◌≡◌, ℕ, List, length};
 ghost use Rattle.std.specs.List.{flat_map};
-ghost use Rattle.archive.specs.Laying.{laid_over};
+ghost use Rattle.archive.specs.Pens.{HasRoom, Lays};
 
-// Lays a form over the bytes from a place on.
-pub(crate) fn lay(space: &mut [u8], at: usize, form: &[u8])
-    requires { at + length form.now ≤ length space.old }
-    ensures { space.new ≡ laid_over at form.now space.old }
-{
-    let part = &mut space[at..at + form.len()];
-    part.copy_from_slice(form);
+// A space, and the place where the next form is laid over its bytes.
+#[derive(Drop)]
+pub(crate) struct Pen<'a> {
+    space: &'a mut [u8],
+    at: usize,
 }
 
-// Lays a form and another right behind it.
-pub(crate) fn lay_both(space: &mut [u8], at: usize, first: &[u8], second: &[u8])
-    requires { at + length first.now + length second.now ≤ length space.old }
-    ensures { space.new ≡ laid_over at (first.now ++ second.now) space.old }
-{
-    lay(space, at, first);
-    lay(space, at + first.len(), second);
+impl<'a> Pen<'a> {
+    // A pen at a place of a space.
+    pub(crate) fn new(space: &'a mut [u8], at: usize) -> Pen<'a>
+        ensures same { result.space.ghost_name ≡ space.entry.ghost_name }
+        ensures space { result.space.now ≡ space.old }
+        ensures at { result.at ≡ at }
+    {
+        Pen { space, at }
+    }
+
+    // Lays a form, and moves on behind it.
+    pub(crate) fn lay(&mut self, form: &[u8])
+        requires { HasRoom self.old (length form.now) }
+        ensures { Lays self.old form.now self.new }
+    {
+        let end = self.at + form.len();
+        self.space[self.at..end].copy_from_slice(form);
+        self.at = end;
+    }
 }
 
 // What is laid of each of some items.
 pub(crate) trait Part<T: Copy> {
     ghost written: { T → List ℕ };
 
-    // Lays what there is of an item; the answer is where it ends.
-    fn lay_one(space: &mut [u8], at: usize, item: T) -> usize
-        requires { at + length (written item) ≤ length space.old }
-        ensures space { space.new ≡ laid_over at (written item) space.old }
-        ensures next { result ≡ at + length (written item) };
+    // Lays what there is of an item.
+    fn lay_one(pen: &mut Pen<'_>, item: T)
+        requires { HasRoom pen.old (length (written item)) }
+        ensures { Lays pen.old (written item) pen.new };
 }
 
-// Lays a part of each of some items, one after the other; the answer is where they end.
-pub(crate) fn lay_each<P: Part<T>, T: Copy>(space: &mut [u8], at: usize, items: &[T]) -> usize
-    requires { at + length (flat_map P.written items.now) ≤ length space.old }
-    ensures space { space.new ≡ laid_over at (flat_map P.written items.now) space.old }
-    ensures next { result ≡ at + length (flat_map P.written items.now) }
+// Lays a part of each of some items, one after the other.
+pub(crate) fn lay_each<P: Part<T>, T: Copy>(pen: &mut Pen<'_>, items: &[T])
+    requires { HasRoom pen.old (length (flat_map P.written items.now)) }
+    ensures { Lays pen.old (flat_map P.written items.now) pen.new }
 {
-    let mut here = at;
     for item in items {
-        here = P::lay_one(space, here, *item);
+        P::lay_one(pen, *item);
     }
-    here
 }

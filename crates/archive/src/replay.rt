@@ -1,17 +1,28 @@
 // The play of an archive over a table of what stands at each record.
-ghost use Rattle.std.specs.Prelude.{◌≡◌, ◌+◌, ◌*◌, ◌<◌, ◌≤◌, length};
+ghost use Rattle.std.specs.Prelude.{◌≡◌, ◌+◌, ◌*◌, ◌<◌, ◌≤◌, ◌++◌, length};
 ghost use Rattle.archive.specs.Blocks.{Whole};
+ghost use Rattle.archive.specs.Laying.{laid_over};
 ghost use Rattle.archive.specs.Play.{opening_table, look_borne, read_look, read_looks, entered, puts_after, by_answer, play_jobs};
 ghost use Rattle.archive.specs.Rule.{read_play};
 
 use crate::blocks::{Opened, front};
 use crate::directory::number_at;
 use crate::fault::Fault;
-use crate::laying::lay_both;
+use crate::laying::Pen;
 use crate::names::record_at;
 use crate::rows::{form, rows};
 use crate::whole::Archive;
 use kinds::stamp::Stamp;
+
+// Lays the row of a record: a stamp and a value.
+fn lay_row(table: &mut [u8], x: usize, stamp: &[u8], value: &[u8])
+    requires { 20 * x + length stamp.now + length value.now ≤ length table.old }
+    ensures { table.new ≡ laid_over (20 * x) (stamp.now ++ value.now) table.old }
+{
+    let mut pen = Pen::new(table, 20 * x);
+    pen.lay(stamp);
+    pen.lay(value);
+}
 
 // Fills the table: at each record the least stamp and the opening value.
 fn open_table(archive: &Archive<'_>, least: &[u8], table: &mut [u8])
@@ -19,7 +30,7 @@ fn open_table(archive: &Archive<'_>, least: &[u8], table: &mut [u8])
     ensures { table.new ≡ opening_table least.now archive.now.bytes.now (20 + 8 * archive.now.stated.jobs) archive.now.stated.records }
 {
     for (i, value) in archive.opening().iter().enumerate() {
-        lay_both(table, 20 * i, least, value);
+        lay_row(table, i, least, value);
     }
 }
 
@@ -59,9 +70,9 @@ fn looks(bytes: &[u8], first: usize, table: &[u8], count: usize) -> Result<(), F
 fn enter(put: &[u8; 14], stamp: &[u8; 8], table: &mut [u8])
     ensures { table.new ≡ entered stamp.now table.old put.now }
 {
-    let at = 20 * usize::from(record_at(put, 0));
-    if at + 20 <= table.len() {
-        lay_both(table, at, stamp, &put[2..]);
+    let x = usize::from(record_at(put, 0));
+    if 20 * x + 20 <= table.len() {
+        lay_row(table, x, stamp, &put[2..]);
     }
 }
 

@@ -1,11 +1,11 @@
 // Lays the looks and puts of a job into a space.
-ghost use Rattle.std.specs.Prelude.{◌≡◌, ◌+◌, ◌≤◌, true, length, if◌then◌else◌};
+ghost use Rattle.std.specs.Prelude.{◌≡◌, ◌≤◌, true, length, if◌then◌else◌};
 ghost use Rattle.kinds.specs.Bytes.{be2};
-ghost use Rattle.archive.specs.Laying.{laid_over};
+ghost use Rattle.archive.specs.Pens.{HasRoom, Lays};
 ghost use Rattle.archive.specs.Journal.{look_bytes, put_bytes};
 ghost use Rattle.archive.specs.Laid.{look_count, put_count, front_bytes, block_in, look_of, look_in, put_in_entry};
 
-use crate::laying::{Part, lay, lay_both, lay_each};
+use crate::laying::{Part, Pen, lay_each};
 use kinds::stamp::Stamp;
 use kinds::value::Record;
 use model::entry::Entry;
@@ -19,12 +19,13 @@ fn two(n: usize) -> [u8; 2]
 }
 
 // Lays a look: record, noted stamp and value.
-fn lay_seen<S: Stamp, R: Record>(space: &mut [u8], at: usize, number: usize, noted: S, saw: R)
-    requires { at + 22 ≤ length space.old }
-    ensures { space.new ≡ laid_over at (look_bytes S.Stamp.kind.order R.Record.kind.form (look_of number noted saw)) space.old }
+fn lay_seen<S: Stamp, R: Record>(pen: &mut Pen<'_>, number: usize, noted: S, saw: R)
+    requires { HasRoom pen.old 22 }
+    ensures { Lays pen.old (look_bytes S.Stamp.kind.order R.Record.kind.form (look_of number noted saw)) pen.new }
 {
-    lay(space, at, &two(number));
-    lay_both(space, at + 2, &noted.to_bytes(), &saw.to_bytes());
+    pen.lay(&two(number));
+    pen.lay(&noted.to_bytes());
+    pen.lay(&saw.to_bytes());
 }
 
 // The noted look of an entry, if it is seen.
@@ -33,12 +34,10 @@ struct Looks;
 impl<S: Stamp, R: Record> Part<Entry<S, R>> for Looks {
     ghost written = { look_in S.Stamp.kind.order R.Record.kind.form };
 
-    fn lay_one(space: &mut [u8], at: usize, item: Entry<S, R>) -> usize {
-        if !item.seen {
-            return at;
+    fn lay_one(pen: &mut Pen<'_>, item: Entry<S, R>) {
+        if item.seen {
+            lay_seen(pen, item.number, item.noted, item.saw);
         }
-        lay_seen(space, at, item.number, item.noted, item.saw);
-        at + 22
     }
 }
 
@@ -48,12 +47,11 @@ struct Puts;
 impl<S: Stamp, R: Record> Part<Entry<S, R>> for Puts {
     ghost written = { put_in_entry S.Stamp.kind.order R.Record.kind.form };
 
-    fn lay_one(space: &mut [u8], at: usize, item: Entry<S, R>) -> usize {
-        if !item.put {
-            return at;
+    fn lay_one(pen: &mut Pen<'_>, item: Entry<S, R>) {
+        if item.put {
+            pen.lay(&two(item.number));
+            pen.lay(&item.wrote.to_bytes());
         }
-        lay_both(space, at, &two(item.number), &item.wrote.to_bytes());
-        at + 14
     }
 }
 
@@ -69,28 +67,27 @@ fn counts<S: Stamp, R: Record>(entries: &[Entry<S, R>]) -> (u8, u8)
 }
 
 // Lays the first 16 bytes of a block: stamp, ticket, number of looks, number of puts, two zero bytes.
-fn lay_front<S: Stamp>(space: &mut [u8], at: usize, stamp: S, ticket: u32, looks: u8, puts: u8)
-    requires { at + 16 ≤ length space.old }
-    ensures { space.new ≡ laid_over at (front_bytes S.Stamp.kind.order stamp ticket looks puts) space.old }
+fn lay_front<S: Stamp>(pen: &mut Pen<'_>, stamp: S, ticket: u32, looks: u8, puts: u8)
+    requires { HasRoom pen.old 16 }
+    ensures { Lays pen.old (front_bytes S.Stamp.kind.order stamp ticket looks puts) pen.new }
 {
-    lay(space, at, &stamp.to_bytes());
-    lay_both(space, at + 8, &ticket.to_be_bytes(), &[looks, puts, 0, 0]);
+    pen.lay(&stamp.to_bytes());
+    pen.lay(&ticket.to_be_bytes());
+    pen.lay(&[looks, puts, 0, 0]);
 }
 
-// Lays the block of a job; the answer is where it ends.
+// Lays the block of a job.
 pub(crate) fn lay_block<S: Stamp, R: Record>(
-    space: &mut [u8],
-    at: usize,
+    pen: &mut Pen<'_>,
     stamp: S,
     ticket: u32,
     entries: &[Entry<S, R>],
-) -> usize
-    requires { (length entries.now ≤ 16) × (at + length (block_in S.Stamp.kind.order R.Record.kind.form stamp ticket entries.now) ≤ length space.old) }
-    ensures space { space.new ≡ laid_over at (block_in S.Stamp.kind.order R.Record.kind.form stamp ticket entries.now) space.old }
-    ensures next { result ≡ at + length (block_in S.Stamp.kind.order R.Record.kind.form stamp ticket entries.now) }
+)
+    requires { (length entries.now ≤ 16) × HasRoom pen.old (length (block_in S.Stamp.kind.order R.Record.kind.form stamp ticket entries.now)) }
+    ensures { Lays pen.old (block_in S.Stamp.kind.order R.Record.kind.form stamp ticket entries.now) pen.new }
 {
     let (looks, puts) = counts(entries);
-    lay_front(space, at, stamp, ticket, looks, puts);
-    let middle = lay_each::<Looks, _>(space, at + 16, entries);
-    lay_each::<Puts, _>(space, middle, entries)
+    lay_front(pen, stamp, ticket, looks, puts);
+    lay_each::<Looks, _>(pen, entries);
+    lay_each::<Puts, _>(pen, entries);
 }

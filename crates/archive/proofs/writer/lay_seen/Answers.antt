@@ -1,13 +1,12 @@
-use Rattle.std.proofs.Common.{◌+◌, ◌++◌, ap, ◌∙◌, arith}
+use Rattle.std.proofs.Common.{arith}
 use Rattle.kinds.specs.Bytes.{be2}
-use Rattle.archive.specs.Laying.{laid_over}
-use Rattle.archive.proofs.Laid.{laid_next}
+use Rattle.archive.proofs.Pens.{lays_as, lays_three}
 use Rattle.archive.proofs.writer.lay_seen.Goals as goal
 
 pub returns : goal.returns
 returns g c =
-    laid_next c.args.at (c.args.at + 2) (be2 c.args.number) (g.S.Stamp.kind.order.form.written c.args.noted ++ g.R.Record.kind.form.written c.args.saw) c.args.space.now c.lay.new.space c.lay_both.new.space
-    (omega arith) (omega arith)
-    (c.lay.ensures ∙ ap (λ xs. laid_over c.args.at xs c.args.space.now) c.two.ensures)
-    (c.lay_both.ensures ∙ ap (λ xs. laid_over (c.args.at + 2) (xs ++ c.to_bytes-2.result) c.lay.new.space) c.to_bytes.ensures
-    ∙ ap (λ xs. laid_over (c.args.at + 2) (g.S.Stamp.kind.order.form.written c.args.noted ++ xs) c.lay.new.space) c.to_bytes-2.ensures)
+    let w = g.met.S.Stamp.lawful.ordered.formed.wide c.args.noted in
+    lays_three c.args.pen.now c.lay.new.self c.lay-2.new.self c.lay-3.new.self (be2 c.args.number) (g.S.Stamp.kind.order.form.written c.args.noted) (g.R.Record.kind.form.written c.args.saw) (omega arith)
+    (lays_as c.args.pen.now c.lay.new.self _ _ c.two.ensures c.lay.ensures)
+    (lays_as c.lay.new.self c.lay-2.new.self _ _ c.to_bytes.ensures c.lay-2.ensures)
+    (lays_as c.lay-2.new.self c.lay-3.new.self _ _ c.to_bytes-2.ensures c.lay-3.ensures)
