@@ -1,7 +1,7 @@
 -- The first places of a table, and what is laid back on them: one more, one rewritten, or all of them.
-use Rattle.std.proofs.Common.{◌≡◌, ℕ, suc, ◌+◌, ◌<◌, min, List, [], ◌∷◌, ◌++◌, map, length, get_or, take, drop, set, sym, ap, ◌∙◌, ⊎_elim, arith, length-append, length-set, length-take, take_all}
+use Rattle.std.proofs.Common.{◌≡◌, ℕ, suc, ◌<◌, ◌≤◌, min, List, [], ◌∷◌, ◌++◌, map, length, take, drop, set, sym, ap, ◌∙◌, append-nil, ⊎_elim, arith, length-append, length-set, length-take, take_all}
 use lib.ListN.{length-map}
-use Rattle.std.proofs.lemmas.List.{append_assoc, set_split, set-append_left, drop_more}
+use Rattle.std.proofs.lemmas.List.{append_assoc, set_split, set-append_left, drop_all}
 use Rattle.std.proofs.lemmas.Bool.{cases_lt}
 use Rattle.model.specs.Tables.{laid}
 use Rattle.model.proofs.Laid.{laid_same}
@@ -12,9 +12,9 @@ module _ {A : Type 0} where
   take_within xs n m e =
       ⊎_elim (λ (l : n < length xs). let s : m ≡ n = omega arith in rw s) (λ l. take_all m xs (omega arith) ∙ sym (take_all n xs l)) (cases_lt n (length xs))
 
-  -- what is left of a table, with its first content as it was read
-  pub left_read : (xs : List A) (i : ℕ) (x : A) → i < length xs → x ≡ get_or xs i x → drop i xs ≡ x ∷ drop (i + 1) xs
-  left_read xs i x h e = drop_more xs i x h ∙ ap (λ (y : A). y ∷ drop (i + 1) xs) (sym e)
+  -- all of a table, each place anew
+  pub map_all : (f : A → A) (xs : List A) (i : ℕ) → length xs ≤ i → map f (take i xs) ++ drop i xs ≡ map f xs
+  map_all f xs i h = rw (take_all i xs h, drop_all i xs h) (append-nil (map f xs))
 
   -- the first places and one more
   pub laid_more : (xs : List A) (n : ℕ) (x : A) → n < length xs → laid (take n xs ++ (x ∷ [])) xs ≡ set xs n x

@@ -1,5 +1,5 @@
 -- What look, put and tune write, place by place, once a call is admitted.
-use Rattle.std.specs.Prelude.{ℕ, ◌+◌, Bool, true, false, cond, List, map, take, Some, None, Ok, Err, Option, nat_le, slice_set}
+use Rattle.std.specs.Prelude.{ℕ, ◌+◌, Bool, true, false, cond, List, map, take, Some, None, Ok, Err, Option, Result, nat_le, slice_set}
 use Rattle.kinds.specs.Stamps.{Kind}
 use Rattle.kinds.specs.Bounds.{later}
 use Rattle.model.specs.declared.entry.Entry.{Entry}
@@ -42,15 +42,19 @@ module _ {S R A : Type 0} where
   abbrev pub where_place : Station S R → Answered S R A → Answered S R A
   where_place t a = cond (nat_le 16 t.job.count) (refused SheetFull t) a
 
+-- an entry more, and another lower bound
+abbrev pub entered_at : {S R A : Type 0} → Kind S → Station S R → S → Entry S R → Result A Refusal → Answered S R A
+entered_at k t lower e r =
+    where_place t
+    (where_room (k.pick lower t.job.upper) t
+    (answered r (grown_to lower t.job) (slice_set t.sheet t.job.count e)))
+
 module _ {S R : Type 0} (k : Kind S) (t : Station S R) where
   abbrev pub look_bound : ImageRow S R → S
   look_bound row = later k.order t.job.lower row.write
 
   abbrev pub look_new_at : ℕ → ImageRow S R → Answered S R R
-  look_new_at x row =
-      where_place t
-      (where_room (k.pick (look_bound row) t.job.upper) t
-      (answered (Ok row.value) (grown_to (look_bound row) t.job) (slice_set t.sheet t.job.count (looked x row))))
+  look_new_at x row = entered_at k t (look_bound row) (looked x row) (Ok row.value)
 
   abbrev pub look_at : Option (ℕ × Entry S R) → ℕ → ImageRow S R → Answered S R R
   look_at (Some p) x row = answered (Ok (own_value p.1)) t.job t.sheet
@@ -60,10 +64,7 @@ module _ {S R : Type 0} (k : Kind S) (t : Station S R) where
   lower_for row = put_bound k.order t.job.lower row
 
   abbrev pub put_new_at : ℕ → ImageRow S R → R → Answered S R (Unit {0})
-  put_new_at x row v =
-      where_place t
-      (where_room (k.pick (lower_for row) t.job.upper) t
-      (answered (Ok tt) (grown_to (lower_for row) t.job) (slice_set t.sheet t.job.count (put_unseen x row v))))
+  put_new_at x row v = entered_at k t (lower_for row) (put_unseen x row v) (Ok tt)
 
   abbrev pub put_again_at : ℕ → Entry S R → ImageRow S R → R → Answered S R (Unit {0})
   put_again_at i e row v =

@@ -1,6 +1,7 @@
 // The checks that calls share.
-ghost use Rattle.std.specs.Prelude.{◌≡◌, nat_le};
-ghost use Rattle.station.specs.Heard.{heard, station as at_station, admitted, roomed};
+ghost use Rattle.std.specs.Prelude.{◌≡◌, Ok, nat_le};
+ghost use Rattle.station.specs.Heard.{heard, station as at_station, answered, admitted, roomed};
+ghost use Rattle.station.specs.Places.{entered_at};
 
 use crate::job::{Job, Standing};
 use crate::sheet::{PLACES, fit};
@@ -8,7 +9,7 @@ use kinds::stamp::Stamp;
 use model::entry::Entry;
 use model::image::{Image, ImageRow};
 use model::refusal::Refusal;
-use model::tables::at;
+use model::tables::{at, store};
 
 impl<S: Stamp> Job<S> {
     // The row that a look or a put is about, or why the call is refused.
@@ -23,16 +24,13 @@ impl<S: Stamp> Job<S> {
         if !fit(image, sheet) {
             return Err(Refusal::WrongTables);
         }
-        if let Standing::Shut = self.standing {
+        if self.standing == Standing::Shut {
             return Err(Refusal::JobShut);
         }
         if image.number != self.image {
             return Err(Refusal::OtherImage);
         }
-        match at(image.rows, number) {
-            Some(row) => Ok(row),
-            None => Err(Refusal::NoSuchRecord),
-        }
+        at(image.rows, number).ok_or(Refusal::NoSuchRecord)
     }
 
     // Whether every place of the sheet has an entry.
@@ -46,9 +44,24 @@ impl<S: Stamp> Job<S> {
     pub(crate) fn room(&self, lower: S) -> Result<S, Refusal>
         ensures { result ≡ roomed (S.Stamp.kind.pick lower self.now.upper) lower }
     {
-        match lower.pick(self.upper) {
-            Some(_) => Ok(lower),
-            None => Err(Refusal::NoRoom),
+        lower.pick(self.upper).map(|_| lower).ok_or(Refusal::NoRoom)
+    }
+
+    // A new entry behind those that count, and a new lower bound.
+    pub(crate) fn enter<R: Copy>(
+        &mut self,
+        sheet: &mut [Entry<S, R>],
+        lower: S,
+        entry: Entry<S, R>,
+    ) -> Result<(), Refusal>
+        ensures { answered result self.new sheet.new ≡ entered_at S.Stamp.kind (at_station self.old sheet.old) lower entry (Ok tt) }
+    {
+        if self.is_full() {
+            return Err(Refusal::SheetFull);
         }
+        self.lower = self.room(lower)?;
+        store(sheet, self.count, entry);
+        self.count += 1;
+        Ok(())
     }
 }

@@ -6,13 +6,13 @@ ghost use Rattle.station.specs.Heard.{heard, station as at_station, answered, fo
 ghost use Rattle.station.specs.Places.{look_at, look_new_at};
 
 use crate::job::Job;
-use crate::sheet::{entries, find, own};
+use crate::sheet::{find, own};
 use kinds::bounds::later;
 use kinds::stamp::Stamp;
 use model::entry::Entry;
 use model::image::{Image, ImageRow};
 use model::refusal::Refusal;
-use model::tables::store;
+use model::tables::front;
 
 // The entry of a look: seen and open, with the row's write stamp.
 fn looked<S: Copy, R: Copy>(number: usize, row: ImageRow<S, R>) -> Entry<S, R>
@@ -39,13 +39,7 @@ impl<S: Stamp> Job<S> {
     ) -> Result<R, Refusal>
         ensures { answered result self.new sheet.new ≡ look_new_at S.Stamp.kind (at_station self.old sheet.old) number row }
     {
-        if self.is_full() {
-            return Err(Refusal::SheetFull);
-        }
-        let lower = self.room(later(self.lower, row.write))?;
-        store(sheet, self.count, looked(number, row));
-        self.lower = lower;
-        self.count += 1;
+        self.enter(sheet, later(self.lower, row.write), looked(number, row))?;
         Ok(row.value)
     }
 
@@ -58,7 +52,7 @@ impl<S: Stamp> Job<S> {
     ) -> Result<R, Refusal>
         ensures { answered result self.new sheet.new ≡ look_at S.Stamp.kind (at_station self.old sheet.old) (found_at number (take self.old.count sheet.old)) number row }
     {
-        match find(entries(sheet, self.count), number) {
+        match find(front(sheet, self.count), number) {
             Some((_, entry)) => Ok(own(entry)),
             None => self.look_new(sheet, number, row),
         }

@@ -2,17 +2,17 @@
 ghost use Rattle.std.specs.Prelude.{◌≡◌, take};
 ghost use Rattle.model.specs.Sheets.{put_unseen, with_value};
 ghost use Rattle.station.specs.Station.{put_job};
-ghost use Rattle.station.specs.Heard.{heard, station as at_station, answered, found_at, put_bound, roomed};
+ghost use Rattle.station.specs.Heard.{heard, station as at_station, answered, found_at, put_bound};
 ghost use Rattle.station.specs.Places.{put_at, put_again_at, put_new_at};
 
 use crate::job::Job;
-use crate::sheet::{entries, find};
+use crate::sheet::find;
 use kinds::bounds::later;
 use kinds::stamp::Stamp;
 use model::entry::Entry;
 use model::image::{Image, ImageRow};
 use model::refusal::Refusal;
-use model::tables::store;
+use model::tables::{front, store};
 
 // The entry of a put of a record not seen: put only, with the row's write stamp.
 fn unseen<S: Copy, R: Copy>(number: usize, row: ImageRow<S, R>, value: R) -> Entry<S, R>
@@ -41,11 +41,11 @@ fn rewritten<S: Copy, R: Copy>(entry: Entry<S, R>, value: R) -> Entry<S, R>
 }
 
 impl<S: Stamp> Job<S> {
-    // The lower bound of a put, after the row's write and read stamps, if there is room for a stamp.
-    fn put_lower<R: Copy>(&self, row: ImageRow<S, R>) -> Result<S, Refusal>
-        ensures { result ≡ roomed (S.Stamp.kind.pick (put_bound S.Stamp.kind.order self.now.lower row) self.now.upper) (put_bound S.Stamp.kind.order self.now.lower row) }
+    // The lower bound of a put: the latest of the job's own and the row's write and read stamps.
+    fn after<R: Copy>(&self, row: ImageRow<S, R>) -> S
+        ensures { result ≡ put_bound S.Stamp.kind.order self.now.lower row }
     {
-        self.room(later(later(self.lower, row.write), row.read))
+        later(later(self.lower, row.write), row.read)
     }
 
     // A put of a record that is not on the sheet yet.
@@ -58,14 +58,7 @@ impl<S: Stamp> Job<S> {
     ) -> Result<(), Refusal>
         ensures { answered result self.new sheet.new ≡ put_new_at S.Stamp.kind (at_station self.old sheet.old) number row value }
     {
-        if self.is_full() {
-            return Err(Refusal::SheetFull);
-        }
-        let lower = self.put_lower(row)?;
-        store(sheet, self.count, unseen(number, row, value));
-        self.lower = lower;
-        self.count += 1;
-        Ok(())
+        self.enter(sheet, self.after(row), unseen(number, row, value))
     }
 
     // A put of a record whose entry stands at a place.
@@ -80,7 +73,7 @@ impl<S: Stamp> Job<S> {
         ensures { answered result self.new sheet.new ≡ put_again_at S.Stamp.kind (at_station self.old sheet.old) place entry row value }
     {
         if !entry.put {
-            self.lower = self.put_lower(row)?;
+            self.lower = self.room(self.after(row))?;
         }
         store(sheet, place, rewritten(entry, value));
         Ok(())
@@ -96,7 +89,7 @@ impl<S: Stamp> Job<S> {
     ) -> Result<(), Refusal>
         ensures { answered result self.new sheet.new ≡ put_at S.Stamp.kind (at_station self.old sheet.old) (found_at number (take self.old.count sheet.old)) number row value }
     {
-        match find(entries(sheet, self.count), number) {
+        match find(front(sheet, self.count), number) {
             Some((place, entry)) => self.put_again(sheet, place, entry, row, value),
             None => self.put_new(sheet, number, row, value),
         }

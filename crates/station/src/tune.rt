@@ -6,17 +6,18 @@ ghost use Rattle.station.specs.Places.{bounds_at, tune_at};
 
 use crate::bounds::{lower_by, upper_by};
 use crate::job::{Job, Standing};
-use crate::sheet::{beyond, close, entries, fit, struck};
+use crate::sheet::{close, fit, struck};
 use kinds::stamp::Stamp;
-use model::entry::Entry;
+use model::entry::{Entry, beyond};
 use model::image::{Image, ImageRow};
 use model::refusal::Refusal;
+use model::tables::front;
 
 // Whether an image number is the next after another.
 fn follows(number: u32, before: u32) -> bool
     ensures { result ≡ (number == before + 1) }
 {
-    number > before && number - before == 1
+    before.checked_add(1) == Some(number)
 }
 
 impl<S: Stamp> Job<S> {
@@ -31,13 +32,13 @@ impl<S: Stamp> Job<S> {
         if !fit(image, sheet) {
             return Err(Refusal::WrongTables);
         }
-        if let Standing::Shut = self.standing {
+        if self.standing == Standing::Shut {
             return Err(Refusal::JobShut);
         }
         if !follows(image.number, self.image) {
             return Err(Refusal::NotNextImage);
         }
-        if beyond(entries(sheet, self.count), image.records) {
+        if beyond(front(sheet, self.count), image.records) {
             return Err(Refusal::NoSuchRecord);
         }
         Ok(())
@@ -57,17 +58,14 @@ impl<S: Stamp> Job<S> {
         }
         let lower = lower_by(entries, rows, self.lower);
         let upper = upper_by(entries, rows, self.upper);
-        match lower.pick(upper) {
-            Some(_) => Some((lower, upper)),
-            None => None,
-        }
+        lower.pick(upper).map(|_| (lower, upper))
     }
 
     // Moves the job to an image and closes its entries by the rows, or shuts it.
     fn tune_at<R: Copy>(&mut self, sheet: &mut [Entry<S, R>], image: Image<'_, S, R>) -> Standing
         ensures { answered (Ok result) self.new sheet.new ≡ tune_at S.Stamp.kind (at_station self.old sheet.old) (heard image.entry) }
     {
-        let Some((lower, upper)) = self.narrowed(entries(sheet, self.count), image.rows) else {
+        let Some((lower, upper)) = self.narrowed(front(sheet, self.count), image.rows) else {
             self.standing = Standing::Shut;
             return Standing::Shut;
         };

@@ -1,19 +1,20 @@
-use Rattle.std.proofs.Common.{◌+◌, drop, sym, ap, ◌∙◌, arith}
-use Rattle.std.proofs.lemmas.List.{at_drop_all}
-use Rattle.station.specs.Station.{upper_by}
+use Rattle.std.proofs.Common.{Some, ◌∙◌, refl, rules, tests}
+use Rattle.std.proofs.lemmas.Iterator.{YieldsList-from_slice}
+use Rattle.std.proofs.lemmas.Iterator.Consumers.{YieldsList-at, YieldsList-from_filter, YieldsList-from_filter_map, fold_from_yields_List}
+use Rattle.kinds.specs.Bounds.{earlier}
+use Rattle.station.specs.Station.{upper_by, narrowed}
 use Rattle.station.specs.Heard.{firsts}
-use Rattle.station.proofs.Back.{left_read}
+use Rattle.station.proofs.Chains.{bounds-fold}
 use Rattle.station.proofs.bounds.upper_by.Goals as goal
-
-pub loop-e-preserved : goal.loop-e-preserved
-loop-e-preserved g c =
-    let o = g.S.Stamp.kind.order in
-    let of = firsts c.args.rows.now in
-    ap (upper_by o of (drop (c.loop-e.e-index + 1) c.args.entries.now)) c.upper_one-bound.ensures
-    ∙ sym (ap (λ es. upper_by o of es c.loop-e.bound) (left_read c.args.entries.now c.loop-e.e-index c.e-item.result c.loop-e-test.true c.e-item.is))
-    ∙ c.loop-e.invariant
 
 pub returns : goal.returns
 returns g c =
-    sym (at_drop_all (λ es. upper_by g.S.Stamp.kind.order (firsts c.args.rows.now) es c.loop-e.bound) c.args.entries.now c.loop-e.e-index (omega arith))
-    ∙ c.loop-e.invariant
+    let o = g.S.Stamp.kind.order in
+    let of = firsts c.args.rows.now in
+    fold_from_yields_List _ (λ u s. Some (earlier o u s)) c.args.upper c.fold.result c.fold.ensures.ran
+    (YieldsList-from_filter_map _ (λ e. of e.number)
+    (YieldsList-at c.filter_map.ensures.source
+    (YieldsList-from_filter _ (λ e. e.opened) (YieldsList-from_slice c.args.entries.now cc) c.filter.ensures.closure (λ x b q k. search (rules, tests))))
+    c.filter_map.ensures.closure (λ x r q k. search (rules, tests)))
+    (λ a x b q k. search (rules, tests))
+    ∙ bounds-fold (λ e. e.opened) (λ e. of e.number) (λ u s. Some (earlier o u s)) (narrowed o) (λ _. refl) (λ _ _. refl) (upper_by o of) (λ _. refl) (λ _ _ _. refl) c.args.entries.now c.args.upper

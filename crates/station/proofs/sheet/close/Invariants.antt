@@ -3,5 +3,7 @@ use Rattle.station.specs.Station.{closed_by}
 use Rattle.station.specs.Heard.{firsts}
 use Rattle.station.proofs.sheet.close.Given as goal
 
-abbrev pub invariant-loop-i : goal.invariant-loop-i
-invariant-loop-i g l = l.sheet ≡ map (closed_by (firsts l.rows)) (take l.i l.initial.sheet) ++ drop l.i l.initial.sheet
+abbrev pub invariant-loop-entry : goal.invariant-loop-entry
+invariant-loop-entry g l =
+    l.entry-items
+    ≡ map (closed_by (firsts l.rows)) (take l.entry-index l.initial.entry-items) ++ drop l.entry-index l.initial.entry-items

@@ -1,19 +1,15 @@
-use Rattle.std.proofs.Common.{sym, ◌∙◌, arith}
-use Rattle.station.proofs.Found.{counted_all, left_here, left_on, left_none}
+use Rattle.std.proofs.Common.{eqb, sym, ◌∙◌, rules, tests}
+use Rattle.std.proofs.lemmas.Iterator.{YieldsList-from_slice}
+use Rattle.std.proofs.lemmas.Iterator.Adapters.{option_map_id}
+use Rattle.std.proofs.lemmas.Iterator.Consumers.{YieldsList-at, YieldsList-from_copied, YieldsList-from_enumerate}
+use Rattle.std.proofs.lemmas.Iterator.Search.{find_from_yields_List}
+use Rattle.station.proofs.Chains.{found_at-find}
 use Rattle.station.proofs.sheet.find.Goals as goal
 
-pub loop-i-init : goal.loop-i-init
-loop-i-init g c = counted_all _
-
-pub returns-then-is_for : goal.returns-then-is_for
-returns-then-is_for g c =
-    sym (left_here c.args.number c.args.entries.now c.loop-i.i c.index-entries-i.result c.loop-i-test.true c.index-entries-i.is (sym c.is_for.ensures ∙ c.if-is_for.true))
-    ∙ c.loop-i.invariant
-
-pub loop-i-preserved : goal.loop-i-preserved
-loop-i-preserved g c =
-    left_on c.args.number c.args.entries.now c.loop-i.i c.index-entries-i.result c.loop-i-test.true c.index-entries-i.is (sym c.is_for.ensures ∙ c.if-is_for.false)
-    ∙ c.loop-i.invariant
-
 pub returns : goal.returns
-returns g c = sym (left_none c.args.number c.args.entries.now c.loop-i.i (omega arith)) ∙ c.loop-i.invariant
+returns g c =
+    sym (option_map_id c.find.result)
+    ∙ find_from_yields_List (λ p. eqb c.args.number p.1.number) _ _ c.find.result c.find.ensures.ran
+    (YieldsList-from_enumerate (YieldsList-at c.enumerate.ensures.source (YieldsList-from_copied (YieldsList-from_slice c.args.entries.now cc))) c.enumerate.ensures.count)
+    (λ x b q k. search (rules, tests))
+    ∙ found_at-find c.args.number c.args.entries.now
