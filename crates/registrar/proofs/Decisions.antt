@@ -1,5 +1,5 @@
 -- What decide leaves, from what its steps leave in the tables.
-use Rattle.std.proofs.Common.{◌≡◌, ℕ, suc, ◌+◌, ◌-◌, ◌*◌, ◌%◌, ◌<◌, ◌≤◌, min, Bool, true, false, not, leb, ◌⊎◌, List, [], ◌∷◌, ◌++◌, length, get_or, take, drop, set, Some, None, Ok, Err, Option, sym, refl, ap, ◌∙◌, ⊎_elim, arith}
+use Rattle.std.proofs.Common.{◌≡◌, ℕ, suc, ◌+◌, ◌-◌, ◌*◌, ◌%◌, ◌<◌, ◌≤◌, min, Bool, true, false, not, leb, List, [], ◌∷◌, ◌++◌, length, get_or, take, drop, set, Some, None, Ok, Err, Option, sym, refl, ap, ◌∙◌, arith}
 use Rattle.std.specs.List.{slice_get}
 use Rattle.std.proofs.lemmas.Option.{slice_get_read}
 use Rattle.std.proofs.lemmas.Bool.{le-leb, lt-leb}
@@ -20,26 +20,26 @@ use Rattle.registrar.specs.Deciding.{Waiting, verdict_on, rows_after, firsts_aft
 use Rattle.registrar.specs.Registry.{Registry, registry_sized, unless, waiting_at, waiting_from, queue_of, oldest_beyond, none_waits, entered, decided_own, by_verdict, decide_oldest, decide}
 use Rattle.registrar.specs.Calls.{registry_of, settled_as, waiting_with, by_stamp, head_of}
 
--- a verdict that does not accept changes nothing
+-- what a verdict comes to where it has a stamp, and where it has none
 module _ {S A : Type 0} where
-  pub not_accepted : (v : Verdict S) → (v ≡ Overtaken) ⊎ ((v ≡ Gone) ⊎ (v ≡ NoPlace)) → (a : A) (f : S → A) → a ≡ by_stamp v a f
-  not_accepted v e a f =
-      let by : (w : Verdict S) → v ≡ w → a ≡ by_stamp w a f → a ≡ by_stamp v a f = λ w q h. h ∙ ap (λ (u : Verdict S). by_stamp u a f) (sym q) in
-      ⊎_elim (λ q. by Overtaken q refl) (⊎_elim (λ q. by Gone q refl) (λ q. by NoPlace q refl)) e
+  pub stamped : (v : Verdict S) {s : S} → Some s ≡ by_stamp v None (λ t. Some t) → (a : A) (f : S → A) → f s ≡ by_stamp v a f
+  stamped (Accepted t) {s} e a f = let h : s ≡ t = cc in ap f h
+  stamped Overtaken e a f = absurd (let z : ◌≡◌ {A = ℕ} 0 1 = cc in omega arith)
+  stamped Gone e a f = absurd (let z : ◌≡◌ {A = ℕ} 0 1 = cc in omega arith)
+  stamped NoPlace e a f = absurd (let z : ◌≡◌ {A = ℕ} 0 1 = cc in omega arith)
 
--- at most one job is entered
-pub by_stamp_below : {S : Type 0} (v : Verdict S) → by_stamp v 0 (λ _. 1) ≤ 1
-by_stamp_below (Accepted s) = omega arith
-by_stamp_below Overtaken = omega arith
-by_stamp_below Gone = omega arith
-by_stamp_below NoPlace = omega arith
+  pub unstamped : (v : Verdict S) → None ≡ by_stamp v None (λ t. Some t) → (a : A) (f : S → A) → a ≡ by_stamp v a f
+  unstamped (Accepted t) e a f = absurd (let z : ◌≡◌ {A = ℕ} 0 1 = cc in omega arith)
+  unstamped Overtaken e a f = refl
+  unstamped Gone e a f = refl
+  unstamped NoPlace e a f = refl
 
 -- the numbers, counted round the ring without a sum that could pass its type
-pub own_decided : (own : Registrar) (n : ℕ) {m : ℕ} → m ≡ min own.waiting 16
-    → record { records = own.records; cycle = own.cycle; tickets = own.tickets; oldest = (own.oldest % 16 + 1) % 16; waiting = m - 1; outcomes = own.outcomes + 1; jobs = own.jobs + n } ≡ decided_own own n
-own_decided own n {m} e =
+pub own_decided : (own : Registrar) (n : ℕ) {m jobs : ℕ} → m ≡ min own.waiting 16 → jobs ≡ own.jobs + n
+    → record { records = own.records; cycle = own.cycle; tickets = own.tickets; oldest = (own.oldest % 16 + 1) % 16; waiting = m - 1; outcomes = own.outcomes + 1; jobs = jobs } ≡ decided_own own n
+own_decided own n {m} {jobs} e j =
     let on : (own.oldest % 16 + 1) % 16 ≡ (own.oldest + 1) % 16 = omega arith in
-    (λ i. record { records = own.records; cycle = own.cycle; tickets = own.tickets; oldest = on i; waiting = e i - 1; outcomes = own.outcomes + 1; jobs = own.jobs + n })
+    (λ i. record { records = own.records; cycle = own.cycle; tickets = own.tickets; oldest = on i; waiting = e i - 1; outcomes = own.outcomes + 1; jobs = j i })
 
 module _ {S R : Type 0} (k : Kind S) (g : Registry S R) where
   -- by the list of those that wait

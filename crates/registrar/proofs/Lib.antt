@@ -1,5 +1,6 @@
 mod Filling
 mod Steps
+mod Outcomes
 mod Heads
 mod Wholes
 mod Decisions

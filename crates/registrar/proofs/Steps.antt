@@ -1,7 +1,6 @@
 -- A loop over a table: the next element of what is left, and the end.
-use Rattle.std.proofs.Common.{◌≡◌, ℕ, ◌+◌, ◌<◌, ◌≤◌, min, List, [], ◌∷◌, length, get_or, take, drop, sym, ap, ◌∙◌, ⊎_elim, arith}
-use Rattle.std.proofs.lemmas.List.{at_drop_more, at_drop_all, take_all}
-use Rattle.std.proofs.lemmas.Bool.{cases_lt}
+use Rattle.std.proofs.Common.{◌≡◌, ℕ, ◌+◌, ◌<◌, ◌≤◌, List, [], ◌∷◌, length, get_or, drop, sym, ap, ◌∙◌}
+use Rattle.std.proofs.lemmas.List.{at_drop_more, at_drop_all}
 
 module _ {A B : Type 0} (f : List A → B) (xs : List A) (i : ℕ) where
   -- x is what was read at the place
@@ -10,13 +9,3 @@ module _ {A B : Type 0} (f : List A → B) (xs : List A) (i : ℕ) where
 
   pub at_end : length xs ≤ i → f (drop i xs) ≡ f []
   at_end l = at_drop_all f xs i l
-
--- the first n of a table, where n may pass its end
-pub take_within : {A : Type 0} (n m : ℕ) (xs : List A) → m ≡ min n (length xs) → take m xs ≡ take n xs
-take_within n m xs e = ⊎_elim inside past (cases_lt n (length xs))
-  where
-    inside : n < length xs → take m xs ≡ take n xs
-    inside l = ap (λ k. take k xs) (omega arith)
-
-    past : length xs ≤ n → take m xs ≡ take n xs
-    past l = take_all m xs (omega arith) ∙ sym (take_all n xs l)

@@ -1,5 +1,5 @@
 -- What each call leaves, from what its steps leave in the tables.
-use Rattle.std.proofs.Common.{◌≡◌, ℕ, ◌+◌, ◌*◌, ◌%◌, ◌<◌, ◌≤◌, true, false, ◌&&◌, List, length, take, set, replicate, None, Ok, Err, Option, sym, ap, ◌∙◌}
+use Rattle.std.proofs.Common.{◌≡◌, ℕ, ◌+◌, ◌*◌, ◌%◌, ◌<◌, ◌≤◌, true, false, ◌&&◌, List, length, take, set, replicate, None, Some, Ok, Err, Option, sym, refl, ap, ◌∙◌}
 use Rattle.std.proofs.lemmas.Bool.{and_parts, le-leb, lt-leb, eq-eqb, ne_eqb}
 use Rattle.kinds.specs.Stamps.{Order}
 use Rattle.model.specs.declared.row.Row.{Row}
@@ -16,6 +16,11 @@ use Rattle.registrar.specs.declared.ticket.Ticket.{Ticket}
 use Rattle.registrar.specs.declared.registrar.Registrar.{Registrar}
 use Rattle.registrar.specs.Registry.{Registry, registry_sized, tables_sized, founded_rows, found, shown_rows, publish, submit}
 use Rattle.registrar.specs.Calls.{registry_of, no_numbers, founded_as, published_as, image_with, handed_as, handed_in, station_of}
+
+-- what a clone of none is, where no value is one
+pub only_none : {A : Type 0} (P : Option A → Type 0) → ((x : A) → P (Some x) → ⊥) → (o : Option A) → P o → o ≡ None
+only_none P missing None h = refl
+only_none P missing (Some x) h = absurd (missing x h)
 
 module _ {S R : Type 0} where
   pub found_whole : (o : Order S) (values : List R) (g : Registry S R) → tables_sized (length values) g ≡ true

@@ -5,12 +5,10 @@ ghost use Rattle.registrar.specs.Registry.{founded_rows, found as found_by};
 ghost use Rattle.registrar.specs.Calls.{registry_left, registry_in, no_numbers, founded_as};
 
 use crate::bundle::Tables;
-use crate::places::fill;
 use crate::registrar::Registrar;
 use kinds::stamp::Stamp;
 use model::refusal::Refusal;
 use model::row::Row;
-use model::tables::store;
 
 // A row at founding: its opening value, with the least stamp as its read stamp and its only version.
 fn new_row<S: Stamp, R: Copy>(value: R, row: &Row<S, R>) -> Row<S, R>
@@ -22,9 +20,7 @@ fn new_row<S: Stamp, R: Copy>(value: R, row: &Row<S, R>) -> Row<S, R>
         read: least,
         count: 1,
         one: least,
-        two: row.two,
-        three: row.three,
-        four: row.four,
+        ..*row
     }
 }
 
@@ -33,9 +29,8 @@ fn new_rows<S: Stamp, R: Copy>(rows: &mut [Row<S, R>], values: &[R])
     requires { length rows.old ≡ length values.now }
     ensures { rows.new ≡ founded_rows S.Stamp.kind.order values.now rows.old }
 {
-    for i in 0..values.len() {
-        let row = new_row(values[i], &rows[i]);
-        store(rows, i, row);
+    for (i, row) in rows.iter_mut().enumerate() {
+        *row = new_row(values[i], row);
     }
 }
 
@@ -50,19 +45,9 @@ impl Registrar {
         if !tables.fit(values.len()) {
             return Err(Refusal::WrongTables);
         }
-        let Tables {
-            rows,
-            firsts,
-            opening,
-            queue: _,
-            queued: _,
-            outcomes: _,
-            heads: _,
-            lines: _,
-        } = tables;
-        new_rows(rows, values);
-        fill(firsts, None);
-        opening.copy_from_slice(values);
+        new_rows(tables.rows, values);
+        tables.firsts.fill(None);
+        tables.opening.copy_from_slice(values);
         Ok(Registrar {
             records: values.len(),
             cycle: 0,

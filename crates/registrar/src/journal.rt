@@ -5,8 +5,8 @@ ghost use Rattle.model.specs.Tables.{laid};
 ghost use Rattle.registrar.specs.Registry.{entered};
 ghost use Rattle.registrar.specs.Calls.{ahead};
 
+use kinds::bounds::before;
 use kinds::stamp::Stamp;
-use std::cmp::Ordering;
 
 // An accepted job in the journal: its stamp, its ticket, and which of the places for lines has its
 // entries, and how many.
@@ -18,28 +18,16 @@ pub struct Head<S> {
     pub count: usize,
 }
 
-// Whether a stamp is before another.
-fn before<S: Stamp>(a: S, b: S) -> bool
-    ensures { result ≡ S.Stamp.kind.order.before a b }
-{
-    match a.compare(b) {
-        Ordering::Less => true,
-        _ => false,
-    }
-}
-
 // How many of the first n heads stand before the first whose stamp is after the given one.
 fn place_of<S: Stamp>(heads: &[Head<S>], n: usize, stamp: S) -> usize
     requires { n ≤ length heads.now }
     ensures place { result ≡ ahead S.Stamp.kind.order stamp (take n heads.now) }
     ensures within { result ≤ n }
 {
-    for i in 0..n {
-        if before(stamp, heads[i].stamp) {
-            return i;
-        }
-    }
-    n
+    heads[..n]
+        .iter()
+        .take_while(|head| !before(stamp, head.stamp))
+        .count()
 }
 
 // A content put at a place of the first n; those behind it move up by one.
@@ -48,9 +36,7 @@ fn insert<T: Copy>(table: &mut [T], n: usize, place: usize, content: T)
     ensures { table.new ≡ laid (insert (take n table.old) place content) table.old }
 {
     table[n] = content;
-    let end = n + 1;
-    let part = &mut table[place..end];
-    part.rotate_right(1);
+    table[place..n + 1].rotate_right(1);
 }
 
 // A head entered among the first n in final order, behind every head whose stamp is not after.

@@ -1,18 +1,18 @@
 // Publishing an image.
-ghost use Rattle.std.specs.Prelude.{◌≡◌, true, ◌&&◌, length, ◌==◌, nat_le};
+ghost use Rattle.std.specs.Prelude.{◌≡◌, length};
 ghost use Rattle.model.specs.Rows.{shown_row};
 ghost use Rattle.registrar.specs.Registry.{shown_rows, publish as published_by};
 ghost use Rattle.registrar.specs.Calls.{registry_left, registry_in, image_with, published_as};
 
 use crate::bundle::Tables;
-use crate::places::{fill, front, lay};
+use crate::places::lay;
 use crate::registrar::Registrar;
 use crate::rows::latest;
 use kinds::stamp::Stamp;
-use model::image::ImageRow;
+use model::image::{ImageRow, fits};
 use model::refusal::Refusal;
 use model::row::Row;
-use model::tables::store;
+use model::tables::front;
 use model::verdict::Outcome;
 
 // An image's own numbers: of its records, its own, and of its outcomes.
@@ -21,14 +21,6 @@ pub struct ImageHead {
     pub records: usize,
     pub number: u32,
     pub count: usize,
-}
-
-// Whether the tables of an image have their lengths, for this many records.
-pub(crate) fn fits(records: usize, rows: usize, outcomes: usize) -> bool
-    ensures told { result ≡ ((nat_le 1 records && nat_le records 1024) && (rows == records && outcomes == 32)) }
-    ensures lengths { result ≡ true → (rows ≡ records) × (outcomes ≡ 32) }
-{
-    1 <= records && records <= 1024 && rows == records && outcomes == 32
 }
 
 // What an image shows of a row with its first write.
@@ -53,9 +45,8 @@ fn show_all<S: Copy, R: Copy>(
     requires firsts { length firsts.now ≡ length rows.now }
     ensures { image.new ≡ shown_rows rows.now firsts.now }
 {
-    for i in 0..rows.len() {
-        let row = show(&rows[i], firsts[i]);
-        store(image, i, row);
+    for (i, shown) in image.iter_mut().enumerate() {
+        *shown = show(&rows[i], firsts[i]);
     }
 }
 
@@ -83,15 +74,11 @@ impl Registrar {
         let Tables {
             rows: register,
             firsts,
-            opening: _,
-            queue: _,
-            queued: _,
             outcomes: decided,
-            heads: _,
-            lines: _,
+            ..
         } = tables;
         show_all(rows, register, firsts);
-        fill(firsts, None);
+        firsts.fill(None);
         let news = front(decided, self.outcomes);
         lay(outcomes, 0, news);
         self.cycle += 1;

@@ -1,8 +1,5 @@
 // The queue of submissions.
 ghost use Rattle.std.specs.Prelude.{◌≡◌, ◌+◌, ◌%◌, ◌<◌, ◌≤◌};
-ghost use Rattle.model.specs.Sheets.{beyond as beyond_any};
-
-use model::entry::Entry;
 
 // A submitted job as the queue keeps it; its entries lie in a table beside the queue.
 #[derive(Clone, Copy)]
@@ -11,18 +8,6 @@ pub struct Submission<S> {
     pub lower: S,
     pub upper: Option<S>,
     pub count: usize,
-}
-
-// Whether an entry names a record that the register has not.
-pub(crate) fn beyond<S: Copy, R: Copy>(entries: &[Entry<S, R>], records: usize) -> bool
-    ensures { result ≡ beyond_any records entries.now }
-{
-    for entry in entries {
-        if entry.number >= records {
-            return true;
-        }
-    }
-    false
 }
 
 // The place behind the submissions that wait, in a ring of 16.

@@ -2,7 +2,7 @@
 ghost use Rattle.std.specs.Prelude.{◌≡◌};
 ghost use Rattle.std.specs.List.{slice_get};
 ghost use Rattle.model.specs.Rows.{write_of, with_look, with_put};
-ghost use Rattle.registrar.specs.Deciding.{row_after, row_written, rows_after, first_kept, first_written, firsts_after};
+ghost use Rattle.registrar.specs.Deciding.{row_after, row_written, rows_after, first_written, firsts_after};
 
 use kinds::bounds::later;
 use kinds::stamp::Stamp;
@@ -57,12 +57,12 @@ fn written<S: Copy, R: Copy>(row: Row<S, R>, value: R, stamp: S) -> Row<S, R>
         },
         _ => Row {
             value,
-            read: row.read,
             count: 4,
             one: row.two,
             two: row.three,
             three: row.four,
             four: stamp,
+            ..row
         },
     }
 }
@@ -101,23 +101,13 @@ pub(crate) fn enter_all<S: Stamp, R: Copy>(
     }
 }
 
-// A first write that is kept if there is one.
-fn kept<S: Copy>(first: Option<S>, stamp: S) -> Option<S>
-    ensures { result ≡ first_kept stamp first }
-{
-    match first {
-        None => Some(stamp),
-        Some(f) => Some(f),
-    }
-}
-
-// The first writes after an entry of the accepted job.
+// The first writes after an entry of the accepted job: a put record that has none takes the job's stamp.
 fn mark<S: Copy, R: Copy>(firsts: &mut [Option<S>], entry: Entry<S, R>, stamp: S)
     ensures { firsts.new ≡ first_written stamp entry firsts.old (slice_get firsts.old entry.number) }
 {
     if let Some(first) = at(firsts, entry.number) {
         if entry.put {
-            store(firsts, entry.number, kept(first, stamp));
+            store(firsts, entry.number, first.or(Some(stamp)));
         }
     }
 }

@@ -1,29 +1,18 @@
 // Submitting a job.
 ghost use Rattle.std.specs.Prelude.{◌≡◌};
-ghost use Rattle.station.specs.Station.{is_shut};
 ghost use Rattle.registrar.specs.Registry.{submit as submitted_by};
 ghost use Rattle.registrar.specs.Calls.{registry_left, registry_in, station_of, handed_as, handed_in};
 
 use crate::bundle::Tables;
-use crate::places::{front, lay};
-use crate::queue::{Submission, beyond, next_place};
+use crate::places::lay;
+use crate::queue::{Submission, next_place};
 use crate::registrar::Registrar;
 use crate::ticket::Ticket;
 use kinds::stamp::Stamp;
-use model::entry::Entry;
+use model::entry::{Entry, beyond};
 use model::refusal::Refusal;
-use model::tables::store;
-use station::job::{Job, Standing};
-
-// Whether a job may not go on.
-fn shut(standing: Standing) -> bool
-    ensures { result ≡ is_shut standing }
-{
-    match standing {
-        Standing::Live => false,
-        Standing::Shut => true,
-    }
-}
+use model::tables::{front, store};
+use station::job::Job;
 
 impl Registrar {
     // The live job goes to the end of the queue, for the next ticket; a refusal hands the job back.
@@ -41,7 +30,7 @@ impl Registrar {
         if sheet.len() != 16 {
             return Err((Refusal::WrongTables, job));
         }
-        if shut(job.standing) {
+        if job.is_shut() {
             return Err((Refusal::JobShut, job));
         }
         let entries = front(sheet, job.count);
@@ -54,21 +43,11 @@ impl Registrar {
         if self.tickets == u32::MAX {
             return Err((Refusal::CountEnded, job));
         }
-        let Tables {
-            rows: _,
-            firsts: _,
-            opening: _,
-            queue,
-            queued,
-            outcomes: _,
-            heads: _,
-            lines: _,
-        } = tables;
         let place = next_place(self.oldest, self.waiting);
         self.tickets += 1;
         self.waiting += 1;
         store(
-            queue,
+            tables.queue,
             place,
             Submission {
                 ticket: self.tickets,
@@ -77,7 +56,7 @@ impl Registrar {
                 count: entries.len(),
             },
         );
-        lay(queued, 16 * place, entries);
+        lay(tables.queued, 16 * place, entries);
         Ok(Ticket::new(self.tickets))
     }
 }

@@ -3,11 +3,10 @@ ghost use Rattle.std.specs.Prelude.{◌≡◌};
 ghost use Rattle.registrar.specs.Registry.{verdict_in, settle as settled_by};
 ghost use Rattle.registrar.specs.Calls.{image_heard, or_ticket};
 
-use crate::places::front;
-use crate::publish::fits;
 use kinds::stamp::Stamp;
-use model::image::Image;
+use model::image::{Image, fits};
 use model::refusal::Refusal;
+use model::tables::front;
 use model::verdict::{Outcome, Verdict};
 
 // What a station holds for a submitted job. It is settled or waived, and cannot be forgotten.
@@ -19,12 +18,10 @@ pub struct Ticket {
 fn verdict_in<S: Copy>(outcomes: &[Outcome<S>], ticket: u32) -> Option<Verdict<S>>
     ensures { result ≡ verdict_in ticket outcomes.now }
 {
-    for outcome in outcomes {
-        if ticket == outcome.ticket {
-            return Some(outcome.verdict);
-        }
-    }
-    None
+    outcomes
+        .iter()
+        .find(|outcome| outcome.ticket == ticket)
+        .map(|outcome| outcome.verdict)
 }
 
 impl Ticket {
@@ -52,13 +49,11 @@ impl Ticket {
         if !fits(image.records, image.rows.len(), image.outcomes.len()) {
             return Err((Refusal::WrongTables, self));
         }
-        match verdict_in(front(image.outcomes, image.count), self.number) {
-            None => Err((Refusal::NotInImage, self)),
-            Some(verdict) => {
-                self.waive();
-                Ok(verdict)
-            }
-        }
+        let Some(verdict) = verdict_in(front(image.outcomes, image.count), self.number) else {
+            return Err((Refusal::NotInImage, self));
+        };
+        self.waive();
+        Ok(verdict)
     }
 
     // The ticket is spent unread.

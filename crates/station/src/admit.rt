@@ -1,5 +1,6 @@
 // The checks that calls share.
 ghost use Rattle.std.specs.Prelude.{◌≡◌, Ok, nat_le};
+ghost use Rattle.station.specs.Station.{is_shut as shut_as};
 ghost use Rattle.station.specs.Heard.{heard, station as at_station, answered, admitted, roomed};
 ghost use Rattle.station.specs.Places.{entered_at};
 
@@ -10,6 +11,15 @@ use model::entry::Entry;
 use model::image::{Image, ImageRow};
 use model::refusal::Refusal;
 use model::tables::{at, store};
+
+impl<S> Job<S> {
+    // Whether the job may not go on.
+    pub fn is_shut(&self) -> bool
+        ensures { result ≡ shut_as self.now.standing }
+    {
+        self.standing == Standing::Shut
+    }
+}
 
 impl<S: Stamp> Job<S> {
     // The row that a look or a put is about, or why the call is refused.
@@ -24,7 +34,7 @@ impl<S: Stamp> Job<S> {
         if !fit(image, sheet) {
             return Err(Refusal::WrongTables);
         }
-        if self.standing == Standing::Shut {
+        if self.is_shut() {
             return Err(Refusal::JobShut);
         }
         if image.number != self.image {

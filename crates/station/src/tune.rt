@@ -32,7 +32,7 @@ impl<S: Stamp> Job<S> {
         if !fit(image, sheet) {
             return Err(Refusal::WrongTables);
         }
-        if self.standing == Standing::Shut {
+        if self.is_shut() {
             return Err(Refusal::JobShut);
         }
         if !follows(image.number, self.image) {

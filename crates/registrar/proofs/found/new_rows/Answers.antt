@@ -17,9 +17,9 @@ loop-i-preserved g c =
     let value = c.index-values-i.result in
     let same = length-founded o values old c.requires in
     let was : row ≡ get_or old i row = filled_read _ old same c.loop-i.rows i row (omega arith) c.loop-i.invariant c.index-rows-i.is in
-    let new : c.new_row-row.result ≡ founded_row o (get_or values i value) (get_or old i row) =
-    c.new_row-row.ensures ∙ (λ j. founded_row o (c.index-values-i.is j) ((sym c.index-rows-i.is ∙ was) j)) in
-    c.store.ensures ∙ filled_more (founded_rows o values old) old same c.loop-i.rows i c.new_row-row.result row (omega arith) c.loop-i.invariant (new ∙ sym (founded_at o values old i value row row (omega arith) (omega arith)))
+    let new : c.new_row.result ≡ founded_row o (get_or values i value) (get_or old i row) =
+    c.new_row.ensures ∙ (λ j. founded_row o (c.index-values-i.is j) ((sym c.index-rows-i.is ∙ was) j)) in
+    filled_more (founded_rows o values old) old same c.loop-i.rows i c.new_row.result row (omega arith) c.loop-i.invariant (new ∙ sym (founded_at o values old i value row row (omega arith) (omega arith)))
 
 pub returns : goal.returns
 returns g c =

@@ -13,8 +13,8 @@ loop-i-preserved g c =
     let row = c.index-rows-i.result in
     let first = c.index-firsts-i.result in
     let same : length (shown_rows rows firsts) ≡ length old = length-shown rows firsts c.requires.firsts ∙ sym c.requires.rows in
-    let new : c.show-row.result ≡ shown_row (get_or rows i row) (get_or firsts i first) = c.show-row.ensures ∙ (λ j. shown_row (c.index-rows-i.is j) (c.index-firsts-i.is j)) in
-    c.store.ensures ∙ filled_more (shown_rows rows firsts) old same c.loop-i.image i c.show-row.result c.show-row.result (omega arith) c.loop-i.invariant (new ∙ sym (shown_at rows firsts i row first _ (omega arith) (omega arith)))
+    let new : c.show.result ≡ shown_row (get_or rows i row) (get_or firsts i first) = c.show.ensures ∙ (λ j. shown_row (c.index-rows-i.is j) (c.index-firsts-i.is j)) in
+    filled_more (shown_rows rows firsts) old same c.loop-i.image i c.show.result c.show.result (omega arith) c.loop-i.invariant (new ∙ sym (shown_at rows firsts i row first _ (omega arith) (omega arith)))
 
 pub returns : goal.returns
 returns g c =

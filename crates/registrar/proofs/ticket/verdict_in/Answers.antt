@@ -1,18 +1,12 @@
-use Rattle.std.proofs.Common.{sym, ◌∙◌, arith}
-use Rattle.std.proofs.lemmas.Bool.{cond-true, cond-false, eq-eqb, ne_eqb}
-use Rattle.registrar.specs.Registry.{verdict_in}
-use Rattle.registrar.proofs.Steps.{at_next, at_end}
+use Rattle.std.proofs.Common.{eqb, ap, ◌∙◌, rules, tests}
+use Rattle.std.specs.Option.{option_map}
+use Rattle.std.proofs.lemmas.Iterator.{YieldsList-from_slice}
+use Rattle.std.proofs.lemmas.Iterator.Search.{find_from_yields_List}
+use Rattle.registrar.proofs.Outcomes.{mapped, verdict_in-find}
 use Rattle.registrar.proofs.ticket.verdict_in.Goals as goal
 
-pub returns-then-ticket-outcome : goal.returns-then-ticket-outcome
-returns-then-ticket-outcome g c =
-    sym (c.loop-outcome.invariant ∙ at_next (verdict_in c.args.ticket) c.args.outcomes.now c.loop-outcome.outcome-index c.outcome-item.result (omega arith) c.outcome-item.is
-    ∙ cond-true _ _ _ (eq-eqb _ _ c.if-ticket-outcome.true))
-
-pub loop-outcome-preserved : goal.loop-outcome-preserved
-loop-outcome-preserved g c =
-    c.loop-outcome.invariant ∙ at_next (verdict_in c.args.ticket) c.args.outcomes.now c.loop-outcome.outcome-index c.outcome-item.result (omega arith) c.outcome-item.is
-    ∙ cond-false _ _ _ (ne_eqb _ _ c.if-ticket-outcome.false)
-
 pub returns : goal.returns
-returns g c = sym (c.loop-outcome.invariant ∙ at_end (verdict_in c.args.ticket) c.args.outcomes.now c.loop-outcome.outcome-index (omega arith))
+returns g c =
+    mapped (λ x. x.now) (λ o. o.verdict) c.find.result c.map.result _ c.map.ensures.cases (λ x y p. search rules)
+    ∙ ap (option_map (λ o. o.verdict)) (find_from_yields_List (λ o. eqb c.args.ticket o.ticket) _ _ c.find.result c.find.ensures.ran (YieldsList-from_slice c.args.outcomes.now cc) (λ x b q k. search (rules, tests)))
+    ∙ verdict_in-find c.args.ticket c.args.outcomes.now

@@ -1,14 +1,21 @@
-use Rattle.std.proofs.Common.{◌+◌, drop, sym, ap, ◌∙◌, arith}
-use Rattle.registrar.specs.Deciding.{lower_bound}
-use Rattle.registrar.proofs.Steps.{at_next, at_end}
+use Rattle.std.proofs.Common.{◌∙◌, refl, rules, tests}
+use Rattle.std.specs.List.{slice_get}
+use Rattle.std.proofs.lemmas.Iterator.{YieldsList-from_slice}
+use Rattle.std.proofs.lemmas.Iterator.Consumers.{YieldsList-at, YieldsList-from_filter, YieldsList-from_filter_map, fold_from_yields_List}
+use Rattle.kinds.specs.Bounds.{later}
+use Rattle.station.specs.Station.{lifted}
+use Rattle.station.proofs.Chains.{bounds-fold}
+use Rattle.registrar.specs.Deciding.{last_use, lower_bound}
 use Rattle.registrar.proofs.verdicts.lower_after.Goals as goal
 
-pub loop-entry-preserved : goal.loop-entry-preserved
-loop-entry-preserved g c =
-    let o = g.S.Stamp.kind.order in
-    let rest = lower_bound o c.args.rows.now (drop (c.loop-entry.entry-index + 1) c.args.entries.now) in
-    c.loop-entry.invariant ∙ at_next (λ es. lower_bound o c.args.rows.now es c.loop-entry.bound) c.args.entries.now c.loop-entry.entry-index c.entry-item.result (omega arith) c.entry-item.is
-    ∙ ap rest (sym c.lift-bound.ensures)
-
 pub returns : goal.returns
-returns g c = sym (c.loop-entry.invariant ∙ at_end (λ es. lower_bound g.S.Stamp.kind.order c.args.rows.now es c.loop-entry.bound) c.args.entries.now c.loop-entry.entry-index (omega arith))
+returns g c =
+    let o = g.S.Stamp.kind.order in
+    let rows = c.args.rows.now in
+    fold_from_yields_List _ (later o) c.args.lower c.fold.result c.fold.ensures.ran
+    (YieldsList-from_filter_map _ (λ e. last_use o (slice_get rows e.number))
+    (YieldsList-at c.filter_map.ensures.source
+    (YieldsList-from_filter _ (λ e. e.put) (YieldsList-from_slice c.args.entries.now cc) c.filter.ensures.closure (λ x b q k. search (rules, tests))))
+    c.filter_map.ensures.closure (λ x r q k. search (rules, tests)))
+    (λ a x b q k. search (rules, tests))
+    ∙ bounds-fold (λ e. e.put) (λ e. last_use o (slice_get rows e.number)) (later o) (lifted o) (λ _. refl) (λ _ _. refl) (lower_bound o rows) (λ _. refl) (λ _ _ _. refl) c.args.entries.now c.args.lower

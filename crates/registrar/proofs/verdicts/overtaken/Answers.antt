@@ -1,21 +1,17 @@
-use Rattle.std.proofs.Common.{◌+◌, ◌||◌, drop, sym, ap, ◌∙◌, arith}
-use Rattle.registrar.specs.Deciding.{overtaken}
-use Rattle.registrar.proofs.Steps.{at_next, at_end}
+use Rattle.std.proofs.Common.{◌∙◌, refl, rules, tests}
+use Rattle.std.specs.List.{slice_get}
+use Rattle.std.proofs.lemmas.Iterator.{YieldsList-from_slice}
+use Rattle.std.proofs.lemmas.Iterator.Consumers.{YieldsList-from_filter}
+use Rattle.std.proofs.lemmas.Iterator.Search.{any_from_yields_List}
+use Rattle.station.proofs.Chains.{any-filter}
+use Rattle.registrar.specs.Deciding.{noted_elsewhere, overtaken}
 use Rattle.registrar.proofs.verdicts.overtaken.Goals as goal
 
-pub returns-then-overtakes : goal.returns-then-overtakes
-returns-then-overtakes g c =
-    let o = g.S.Stamp.kind.order in
-    let rest = overtaken o c.args.rows.now (drop (c.loop-entry.entry-index + 1) c.args.entries.now) in
-    sym (c.loop-entry.invariant ∙ at_next (overtaken o c.args.rows.now) c.args.entries.now c.loop-entry.entry-index c.entry-item.result (omega arith) c.entry-item.is
-    ∙ ap (λ b. b || rest) (sym c.if-overtakes.ensures))
-
-pub loop-entry-preserved : goal.loop-entry-preserved
-loop-entry-preserved g c =
-    let o = g.S.Stamp.kind.order in
-    let rest = overtaken o c.args.rows.now (drop (c.loop-entry.entry-index + 1) c.args.entries.now) in
-    c.loop-entry.invariant ∙ at_next (overtaken o c.args.rows.now) c.args.entries.now c.loop-entry.entry-index c.entry-item.result (omega arith) c.entry-item.is
-    ∙ ap (λ b. b || rest) (sym c.if-overtakes.ensures)
-
 pub returns : goal.returns
-returns g c = sym (c.loop-entry.invariant ∙ at_end (overtaken g.S.Stamp.kind.order c.args.rows.now) c.args.entries.now c.loop-entry.entry-index (omega arith))
+returns g c =
+    let o = g.S.Stamp.kind.order in
+    let rows = c.args.rows.now in
+    any_from_yields_List (λ e. noted_elsewhere o e.noted (slice_get rows e.number)) _ _ _ c.any.ensures.ran
+    (YieldsList-from_filter _ (λ e. e.put) (YieldsList-from_slice c.args.entries.now cc) c.filter.ensures.closure (λ x b q k. search (rules, tests)))
+    (λ x b q k. search (rules, tests))
+    ∙ any-filter (λ e. e.put) (λ e. noted_elsewhere o e.noted (slice_get rows e.number)) (overtaken o rows) refl (λ _ _. refl) c.args.entries.now

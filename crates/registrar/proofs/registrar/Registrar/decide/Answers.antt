@@ -1,7 +1,8 @@
-use Rattle.std.proofs.Common.{◌%◌, ◌<◌, length, take, sym, refl, ap, ◌∙◌, arith, length-take, rules}
+use Rattle.std.proofs.Common.{◌%◌, ◌<◌, length, take, sym, refl, ap, ◌∙◌, add-zero, arith, length-take, rules}
 use Rattle.registrar.specs.Calls.{registry_in}
-use Rattle.registrar.proofs.Decisions.{by_stamp_below, own_decided, decide_beyond, decide_full, decide_crowded, decide_whole}
+use Rattle.registrar.proofs.Decisions.{stamped, unstamped, own_decided, decide_beyond, decide_full, decide_crowded, decide_whole}
 use Rattle.registrar.proofs.registrar.Registrar.decide.Goals as goal
+use Rattle.registrar.proofs.registrar.Registrar.decide.Goals.{in-Some, in_default}
 
 pub bounds-queue-place : goal.bounds-queue-place
 bounds-queue-place g c = let fits = c.if-not-fit.ensures.lengths refl in omega arith
@@ -33,24 +34,30 @@ returns-then-self-ge32 g c =
     (sym c.if-not-fit.ensures.told) c.if-self-eq0.false (c.if-not-fit.ensures.lengths refl).queue c.index-queue-place.is
     (c.front-entries.ensures ∙ ap (take c.index-queue-place.result.count) c.block.ensures) (sym c.if-beyond.ensures) c.if-self-heads.false c.if-self-ge32.true
 
-pub carry_out-added-requires : goal.carry_out-added-requires
-carry_out-added-requires g c =
+pub lay-requires : goal.lay-requires
+lay-requires g c =
     let fits = c.if-not-fit.ensures.lengths refl in
     let b = ap length c.block.ensures ∙ length-take 16 _ in
     let n = ap length c.front-entries.ensures ∙ length-take c.index-queue-place.result.count c.block.result.now in
-    record { room = c.if-self-heads.false; few = fits.heads; lines = fits.lines; entries = omega arith }
-
-pub overflow_add-self-3 : goal.overflow_add-self-3
-overflow_add-self-3 g c =
-    let fits = c.if-not-fit.ensures.lengths refl in
-    let n = by_stamp_below c.verdict-verdict.result in
-    let m = c.carry_out-added.ensures.count in
     omega arith
 
 pub returns : goal.returns
 returns g c =
-    decide_whole g.S.Stamp.kind (registry_in c.args.self.now c.args.tables) c.index-queue-place.result c.front-entries.result.now
-    (sym c.if-not-fit.ensures.told) c.if-self-eq0.false (c.if-not-fit.ensures.lengths refl).queue c.index-queue-place.is
-    (c.front-entries.ensures ∙ ap (take c.index-queue-place.result.count) c.block.ensures) (sym c.if-beyond.ensures) c.if-self-heads.false c.if-self-ge32.false
-    c.verdict-verdict.ensures c.carry_out-added.ensures.count (own_decided c.args.self.now c.carry_out-added.result c.min.ensures)
-    c.carry_out-added.ensures.rows c.carry_out-added.ensures.firsts c.carry_out-added.ensures.heads c.carry_out-added.ensures.lines c.store.ensures
+    let v = c.verdict-verdict.result in
+    let own = c.args.self.now in
+    elim c.match-stamp_of.branch [
+      | in-Some w ↦
+          decide_whole g.S.Stamp.kind (registry_in own c.args.tables) c.index-queue-place.result c.front-entries.result.now
+          (sym c.if-not-fit.ensures.told) c.if-self-eq0.false (c.if-not-fit.ensures.lengths refl).queue c.index-queue-place.is
+          (c.front-entries.ensures ∙ ap (take c.index-queue-place.result.count) c.block.ensures) (sym c.if-beyond.ensures) c.if-self-heads.false c.if-self-ge32.false
+          c.verdict-verdict.ensures (stamped v w.in-Some.ensures 0 (λ _. 1)) (w.self-is ∙ own_decided own 1 c.min.ensures refl)
+          (w.rows-is ∙ w.enter_all.ensures ∙ stamped v w.in-Some.ensures _ _) (w.firsts-is ∙ w.mark_all.ensures ∙ stamped v w.in-Some.ensures _ _)
+          (w.heads-is ∙ w.record.ensures ∙ stamped v w.in-Some.ensures _ _) (w.lines-is ∙ w.lay.ensures ∙ stamped v w.in-Some.ensures _ _) c.store.ensures
+      | in_default w ↦
+          decide_whole g.S.Stamp.kind (registry_in own c.args.tables) c.index-queue-place.result c.front-entries.result.now
+          (sym c.if-not-fit.ensures.told) c.if-self-eq0.false (c.if-not-fit.ensures.lengths refl).queue c.index-queue-place.is
+          (c.front-entries.ensures ∙ ap (take c.index-queue-place.result.count) c.block.ensures) (sym c.if-beyond.ensures) c.if-self-heads.false c.if-self-ge32.false
+          c.verdict-verdict.ensures (unstamped v w.in_default.ensures 0 (λ _. 1)) (w.self-is ∙ own_decided own 0 c.min.ensures (sym (add-zero own.jobs)))
+          (w.rows-is ∙ unstamped v w.in_default.ensures _ _) (w.firsts-is ∙ unstamped v w.in_default.ensures _ _)
+          (w.heads-is ∙ unstamped v w.in_default.ensures _ _) (w.lines-is ∙ unstamped v w.in_default.ensures _ _) c.store.ensures
+    ]

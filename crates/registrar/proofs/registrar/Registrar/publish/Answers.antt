@@ -1,6 +1,6 @@
 use Rattle.std.proofs.Common.{length, sym, refl, ap, ◌∙◌, arith, length-take}
 use Rattle.registrar.specs.Calls.{registry_in, image_with}
-use Rattle.registrar.proofs.Wholes.{publish_misfit, publish_ended, publish_whole}
+use Rattle.registrar.proofs.Wholes.{only_none, publish_misfit, publish_ended, publish_whole}
 use Rattle.registrar.proofs.registrar.Registrar.publish.Goals as goal
 
 pub returns-then-not-fits : goal.returns-then-not-fits
@@ -29,4 +29,4 @@ pub returns : goal.returns
 returns g c =
     publish_whole (registry_in c.args.self.now c.args.tables) (image_with c.args.head.now c.args.rows.now c.args.outcomes.now)
     (sym c.if-not-fit.ensures.told) (sym c.if-not-fits.ensures.told) (omega arith)
-    c.show_all.ensures c.fill.ensures c.front-news.ensures c.lay.ensures
+    c.show_all.ensures (c.fill.ensures.after (only_none _ (λ s k. k))) c.front-news.ensures c.lay.ensures

@@ -16,5 +16,5 @@ lay-requires g c =
 pub returns : goal.returns
 returns g c =
     submit_whole (registry_in c.args.self.now c.args.tables) c.args.job c.args.sheet.now (sym c.if-not-fit.ensures.told)
-    c.if-sheet-ne16.false (sym c.if-shut.ensures) c.front-entries.ensures (sym c.if-beyond.ensures) (omega arith) (omega arith)
+    c.if-sheet-ne16.false (sym c.if-is_shut.ensures) c.front-entries.ensures (sym c.if-beyond.ensures) (omega arith) (omega arith)
     c.new.ensures c.next_place-place.ensures.place c.store.ensures c.lay.ensures
