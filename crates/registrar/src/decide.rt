@@ -15,7 +15,7 @@ use model::refusal::Refusal;
 use model::tables::{front, store};
 use model::verdict::{Outcome, Verdict};
 
-// The stamp of an accepted job.
+// The stamp of an accepted job. (A pattern on the verdict in decide itself would move it in one branch only.)
 fn stamp_of<S: Copy>(verdict: Verdict<S>) -> Option<S>
     ensures { result ≡ by_stamp verdict None (λ s. Some s) }
 {

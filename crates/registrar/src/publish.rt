@@ -15,8 +15,9 @@ use model::row::Row;
 use model::tables::front;
 use model::verdict::Outcome;
 
-// An image's own numbers: of its records, its own, and of its outcomes.
-#[derive(Clone, Copy)]
+// An image's own numbers: of its records, its own, and of its outcomes, which lie in a table that the
+// caller brings.
+#[derive(Clone, Copy, Debug, PartialEq, Eq)]
 pub struct ImageHead {
     pub records: usize,
     pub number: u32,
@@ -35,7 +36,8 @@ fn show<S: Copy, R: Copy>(row: &Row<S, R>, first: Option<S>) -> ImageRow<S, R>
     }
 }
 
-// The image's rows: each row of the register with its first write.
+// The image's rows: each row of the register with its first write. These go by index: what a `zip` over
+// `iter_mut` has written is not known to a proof.
 fn show_all<S: Copy, R: Copy>(
     image: &mut [ImageRow<S, R>],
     rows: &[Row<S, R>],

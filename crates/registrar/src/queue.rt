@@ -1,7 +1,7 @@
 // The queue of submissions.
 ghost use Rattle.std.specs.Prelude.{◌≡◌, ◌+◌, ◌%◌, ◌<◌, ◌≤◌};
 
-// A submitted job as the queue keeps it; its entries lie in a table beside the queue.
+// A submitted job as the queue keeps it; its entries, so many, lie in a table that the caller brings.
 #[derive(Clone, Copy)]
 pub struct Submission<S> {
     pub ticket: u32,

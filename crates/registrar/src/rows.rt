@@ -79,7 +79,8 @@ fn changed<S: Stamp, R: Copy>(row: Row<S, R>, entry: Entry<S, R>, stamp: S) -> R
     }
 }
 
-// The rows after an entry of the accepted job.
+// The rows after an entry of the accepted job. The row is read and stored, since `get_mut` at a place
+// does not say what the table ends as.
 fn enter<S: Stamp, R: Copy>(rows: &mut [Row<S, R>], entry: Entry<S, R>, stamp: S)
     ensures { rows.new ≡ row_written S.Stamp.kind.order stamp entry rows.old (slice_get rows.old entry.number) }
 {
@@ -101,7 +102,8 @@ pub(crate) fn enter_all<S: Stamp, R: Copy>(
     }
 }
 
-// The first writes after an entry of the accepted job: a put record that has none takes the job's stamp.
+// The first writes after an entry of the accepted job: a put record that has none takes the job's
+// stamp. It is read and stored, as a row is.
 fn mark<S: Copy, R: Copy>(firsts: &mut [Option<S>], entry: Entry<S, R>, stamp: S)
     ensures { firsts.new ≡ first_written stamp entry firsts.old (slice_get firsts.old entry.number) }
 {

@@ -51,9 +51,9 @@ fn following<S: Stamp, R: Copy>(noted: S, row: Option<Row<S, R>>) -> Option<Opti
         0 | 1 => None,
         2 => follows(noted, last, row.one),
         3 => follows(noted, last, row.two).or(follows(noted, row.two, row.one)),
-        _ => follows(noted, last, row.three).or(follows(noted, row.three, row.two).or(follows(
-            noted, row.two, row.one,
-        ))),
+        _ => follows(noted, last, row.three)
+            .or(follows(noted, row.three, row.two))
+            .or(follows(noted, row.two, row.one)),
     }
 }
 
@@ -107,7 +107,8 @@ fn lower_after<S: Stamp, R: Copy>(rows: &[Row<S, R>], entries: &[Entry<S, R>], l
         .fold(lower, |lower, used| later(lower, used))
 }
 
-// Overtaken, then gone, then no place; else accepted with a stamp between the bounds.
+// Overtaken, then gone, then no place; else accepted with a stamp between the bounds. Rows and entries are
+// handed on as two slices: a struct of both would put its name into each clause.
 pub(crate) fn verdict<S: Stamp, R: Copy>(
     rows: &[Row<S, R>],
     submission: Submission<S>,

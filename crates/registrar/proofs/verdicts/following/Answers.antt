@@ -5,7 +5,7 @@ use Rattle.registrar.specs.Deciding.{follows_in}
 use Rattle.registrar.proofs.verdicts.following.Goals as goal
 
 -- the first of three that is there
-first_of_three : {A : Type 0} (a b c : Bool) (x y z : A) → option_or (cond a (Some x) None) (option_or (cond b (Some y) None) (cond c (Some z) None)) ≡ cond a (Some x) (cond b (Some y) (cond c (Some z) None))
+first_of_three : {A : Type 0} (a b c : Bool) (x y z : A) → option_or (option_or (cond a (Some x) None) (cond b (Some y) None)) (cond c (Some z) None) ≡ cond a (Some x) (cond b (Some y) (cond c (Some z) None))
 first_of_three true b c x y z = refl
 first_of_three false true c x y z = refl
 first_of_three false false c x y z = refl
