@@ -1,5 +1,5 @@
 -- What decide leaves, from what its steps leave in the tables.
-use Rattle.std.proofs.Common.{◌≡◌, ℕ, suc, ◌+◌, ◌-◌, ◌*◌, ◌%◌, ◌<◌, ◌≤◌, min, Bool, true, false, not, leb, List, [], ◌∷◌, ◌++◌, length, get_or, take, drop, set, Some, None, Ok, Err, Option, sym, refl, ap, ◌∙◌, arith}
+use Rattle.std.proofs.Common.{◌≡◌, ℕ, suc, ◌+◌, ◌-◌, ◌*◌, ◌%◌, ◌<◌, ◌≤◌, min, Bool, true, false, not, leb, List, ◌∷◌, ◌++◌, length, get_or, take, drop, set, Some, None, Ok, Err, Option, sym, refl, ap, ◌∙◌, arith}
 use Rattle.std.specs.List.{slice_get}
 use Rattle.std.proofs.lemmas.Option.{slice_get_read}
 use Rattle.std.proofs.lemmas.Bool.{le-leb, lt-leb}
@@ -48,11 +48,6 @@ module _ {S R : Type 0} (k : Kind S) (g : Registry S R) where
   decide_by ws e z =
       ap (λ (b : Bool). unless (refused_if (not b) WrongTables (refused_if (oldest_beyond k g (queue_of g)) NoSuchRecord (refused_if (none_waits k (queue_of g)) NoneWaiting (refused_if (leb (length g.heads) g.own.jobs) JournalFull (refused_if (leb 32 g.own.outcomes) OutcomesFull None))))) g (decide_oldest k (queue_of g) g)) z
       ∙ ap (λ (us : List (Waiting S R)). unless (refused_if (oldest_beyond k g us) NoSuchRecord (refused_if (none_waits k us) NoneWaiting (refused_if (leb (length g.heads) g.own.jobs) JournalFull (refused_if (leb 32 g.own.outcomes) OutcomesFull None)))) g (decide_oldest k us g)) e
-
-  pub decide_none : registry_sized g ≡ true → g.own.waiting ≡ 0 → settled_as (Err NoneWaiting) g ≡ decide k g
-  decide_none z w =
-      let n : min g.own.waiting 16 ≡ 0 = omega arith in
-      sym (decide_by [] (ap (waiting_from g g.own.oldest) n) z)
 
   -- each verdict leaves what its stamp brings, if it has one
   by_verdict_is : (w : Waiting S R) (v : Verdict S) → by_verdict k v g w

@@ -1,5 +1,3 @@
-mod Filling
-mod Steps
 mod Outcomes
 mod Heads
 mod Wholes

@@ -5,7 +5,7 @@ use Rattle.kinds.specs.Stamps.{Order}
 use Rattle.model.specs.declared.row.Row.{Row}
 use Rattle.model.specs.declared.image.ImageRow.{ImageRow}
 use Rattle.model.specs.declared.verdict.Outcome.{Outcome}
-use Rattle.model.specs.declared.refusal.Refusal.TheVariants.{WrongTables, CountEnded}
+use Rattle.model.specs.declared.refusal.Refusal.TheVariants.{WrongTables, QueueFull, CountEnded}
 use Rattle.model.specs.Tables.{lawful_size, sized, laid_from}
 use Rattle.model.specs.declared.entry.Entry.{Entry}
 use Rattle.model.specs.Sheets.{beyond}
@@ -37,9 +37,6 @@ module _ {S R : Type 0} (g : Registry S R) (i : Image S R) where
   abbrev own_after : Registrar
   own_after = record { records = g.own.records; cycle = g.own.cycle + 1; tickets = g.own.tickets; oldest = g.own.oldest; waiting = g.own.waiting; outcomes = 0; jobs = g.own.jobs }
 
-  pub publish_wrong : registry_sized g ≡ false → published_as (Err WrongTables) g i ≡ publish g i
-  publish_wrong h = simp h
-
   pub publish_misfit : registry_sized g ≡ true → (lawful_size g.own.records && (sized i.rows g.own.records && sized i.outcomes 32)) ≡ false → published_as (Err WrongTables) g i ≡ publish g i
   publish_misfit h m = let a = rw (and_parts (lawful_size g.own.records) _ h).0 at m in simp (h, a)
 
@@ -60,6 +57,13 @@ module _ {S R : Type 0} (g : Registry S R) (i : Image S R) where
 module _ {S R : Type 0} (g : Registry S R) (j : Job S) (sheet : List (Entry S R)) (z : registry_sized g ≡ true) where
   pub submit_sheet : (length sheet ≡ 16 → ⊥) → handed_as (Err (WrongTables, j)) g ≡ handed_in j (submit g (station_of j sheet))
   submit_sheet n = simp (z, ne_eqb _ _ n)
+
+  module _ (n : length sheet ≡ 16) (live : is_shut j.standing ≡ false) {entries : List (Entry S R)} (e : entries ≡ take j.count sheet) (far : beyond g.own.records entries ≡ false) where
+    pub submit_full : 16 ≤ g.own.waiting → handed_as (Err (QueueFull, j)) g ≡ handed_in j (submit g (station_of j sheet))
+    submit_full w = let near : beyond g.own.records (take j.count sheet) ≡ false = rw e at far in simp (z, eq-eqb _ _ n, live, near, le-leb _ _ w)
+
+    pub submit_ended : g.own.waiting < 16 → 4294967295 ≤ g.own.tickets → handed_as (Err (CountEnded, j)) g ≡ handed_in j (submit g (station_of j sheet))
+    submit_ended w t = let near : beyond g.own.records (take j.count sheet) ≡ false = rw e at far in simp (z, eq-eqb _ _ n, live, near, lt-leb _ _ w, le-leb _ _ t)
 
   abbrev own_submitted : Registrar
   own_submitted = record { records = g.own.records; cycle = g.own.cycle; tickets = g.own.tickets + 1; oldest = g.own.oldest; waiting = g.own.waiting + 1; outcomes = g.own.outcomes; jobs = g.own.jobs }

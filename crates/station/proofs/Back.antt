@@ -12,9 +12,9 @@ module _ {A : Type 0} where
   take_within xs n m e =
       ⊎_elim (λ (l : n < length xs). let s : m ≡ n = omega arith in rw s) (λ l. take_all m xs (omega arith) ∙ sym (take_all n xs l)) (cases_lt n (length xs))
 
-  -- all of a table, each place anew
-  pub map_all : (f : A → A) (xs : List A) (i : ℕ) → length xs ≤ i → map f (take i xs) ++ drop i xs ≡ map f xs
-  map_all f xs i h = rw (take_all i xs h, drop_all i xs h) (append-nil (map f xs))
+  -- a table that was taken anew, place by place, to its end
+  pub anew : (f : A → A) (xs new : List A) (i : ℕ) → length new ≤ i → take i new ++ map f (drop i new) ≡ xs → new ≡ xs
+  anew f xs new i h e = sym (rw (take_all i new h, drop_all i new h) (append-nil new)) ∙ e
 
   -- the first places and one more
   pub laid_more : (xs : List A) (n : ℕ) (x : A) → n < length xs → laid (take n xs ++ (x ∷ [])) xs ≡ set xs n x

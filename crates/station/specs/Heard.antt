@@ -8,11 +8,10 @@ use Rattle.model.specs.declared.entry.Entry.{Entry}
 use Rattle.model.specs.declared.image.Image.{Image as Broadcast}
 use Rattle.model.specs.declared.image.ImageRow.{ImageRow}
 use Rattle.model.specs.declared.refusal.Refusal.{Refusal}
-use Rattle.model.specs.declared.refusal.Refusal.TheVariants.{WrongTables, JobShut, NoSuchRecord, NoRoom}
-use Rattle.model.specs.Refusals.{refused_if}
+use Rattle.model.specs.declared.refusal.Refusal.TheVariants.{WrongTables, NoSuchRecord, NoRoom}
 use Rattle.model.specs.Tables.{sized}
 use Rattle.station.specs.declared.job.Job.{Job}
-use Rattle.station.specs.Station.{Image, image_sized, Station, Answered, work_of, is_shut, at_image, at_next, first_in, read_in}
+use Rattle.station.specs.Station.{Image, image_sized, Station, Answered, work_of, at_image, at_next, first_in, read_in}
 
 module _ {S R : Type 0} where
   -- an image as the code has it, with what its tables hold
@@ -59,10 +58,6 @@ roomed (Some s) lower = Ok lower
 abbrev pub on_unless : Option Refusal → Result (Unit {0}) Refusal
 on_unless (Some r) = Err r
 on_unless None = Ok tt
-
--- whether the tables have their lengths and the job is live
-abbrev pub readied : {S R : Type 0} → Station S R → Image S R → Result (Unit {0}) Refusal
-readied t i = cond (image_sized i && sized t.sheet 16) (on_unless (refused_if (is_shut t.job.standing) JobShut None)) (Err WrongTables)
 
 module _ {S R : Type 0} (k : Kind S) where
   abbrev pub admitted_next : Station S R → Image S R → Result (Unit {0}) Refusal

@@ -6,7 +6,7 @@ ghost use Rattle.station.specs.Places.{bounds_at, tune_at};
 
 use crate::bounds::{lower_by, upper_by};
 use crate::job::{Job, Standing};
-use crate::sheet::{close, struck};
+use crate::sheet::{close, fit, struck};
 use kinds::stamp::Stamp;
 use model::entry::{Entry, beyond};
 use model::image::{Image, ImageRow};
@@ -29,7 +29,12 @@ impl<S: Stamp> Job<S> {
     ) -> Result<(), Refusal>
         ensures { result ≡ admitted_next S.Stamp.kind (at_station self.now sheet.now) (heard image.entry) }
     {
-        self.ready(sheet, image)?;
+        if !fit(image, sheet) {
+            return Err(Refusal::WrongTables);
+        }
+        if self.is_shut() {
+            return Err(Refusal::JobShut);
+        }
         if !follows(image.number, self.image) {
             return Err(Refusal::NotNextImage);
         }

@@ -5,5 +5,5 @@ use Rattle.station.proofs.sheet.close.Given as goal
 
 abbrev pub invariant-loop-entry : goal.invariant-loop-entry
 invariant-loop-entry g l =
-    l.entry-items
-    ≡ map (closed_by (firsts l.rows)) (take l.entry-index l.initial.entry-items) ++ drop l.entry-index l.initial.entry-items
+    take l.entry-index l.entry-items ++ map (closed_by (firsts l.rows)) (drop l.entry-index l.entry-items)
+    ≡ map (closed_by (firsts l.rows)) l.initial.entry-items
