@@ -114,7 +114,8 @@ fn mark<S: Copy, R: Copy>(firsts: &mut [Option<S>], entry: Entry<S, R>, stamp: S
     }
 }
 
-// The first writes after all entries of the accepted job.
+// The first writes after all entries of the accepted job: a loop as that of the rows, over another table,
+// since a function for both would ask of its callers what their step does.
 pub(crate) fn mark_all<S: Copy, R: Copy>(
     firsts: &mut [Option<S>],
     entries: &[Entry<S, R>],

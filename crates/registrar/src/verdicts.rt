@@ -31,7 +31,8 @@ fn overtaken<S: Stamp, R: Copy>(rows: &[Row<S, R>], entries: &[Entry<S, R>]) -> 
         .any(|entry| moved_on(entry.noted, at(rows, entry.number)))
 }
 
-// The next version, where the noted stamp is this one; none where it is another.
+// The next version, where the noted stamp is this one; none where it is another. Here and below the inner
+// option is a bound that may be absent, as in the definitions: a type for both would only rename them.
 fn follows<S: Stamp>(noted: S, next: S, version: S) -> Option<Option<S>>
     ensures { result ≡ (if same_as S.Stamp.kind.order noted version then Some (Some next) else None) }
 {
@@ -96,7 +97,8 @@ fn last_use<S: Stamp, R: Copy>(rows: &[Row<S, R>], number: usize) -> Option<S>
     at(rows, number).map(|row| later(row.read, latest(&row)))
 }
 
-// The lower bound, lifted by the last use of each put entry's record.
+// The lower bound, lifted by the last use of each put entry's record. A station folds read stamps alike: a
+// function for both would ask of its callers what the function that it is given answers.
 fn lower_after<S: Stamp, R: Copy>(rows: &[Row<S, R>], entries: &[Entry<S, R>], lower: S) -> S
     ensures { result ≡ lower_bound S.Stamp.kind.order rows.now entries.now lower }
 {

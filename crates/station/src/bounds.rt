@@ -16,7 +16,7 @@ pub fn first_write<S: Copy, R: Copy>(rows: &[ImageRow<S, R>], number: usize) -> 
     at(rows, number).and_then(|row| row.first)
 }
 
-// The read stamp of a record, if there is such a record.
+// The read stamp of a record, if there is such a record: another field than the first write, read alike.
 pub fn read_stamp<S: Copy, R: Copy>(rows: &[ImageRow<S, R>], number: usize) -> Option<S>
     ensures { result ≡ reads rows.now number }
 {
