@@ -1,9 +1,7 @@
 -- The lines of an input, and what each one is.
-use Rattle.std.specs.Prelude.{ℕ, Bool, true, false, cond, List, [], ◌∷◌, ◌++◌, Ok, Err, Result, ◌==◌}
+use Rattle.std.specs.Prelude.{ℕ, Bool, true, false, cond, List, [], ◌∷◌, ◌++◌, Some, None, Ok, Err, Option, Result, ◌==◌}
 use Rattle.schedule_text.specs.declared.command.Command.{Command}
 use Rattle.schedule_text.specs.declared.reason.Reason.{Reason}
-use Rattle.schedule_text.specs.declared.line.Line.{Line}
-use Rattle.schedule_text.specs.declared.line.Line.TheVariants.{PassedOver, Call, NoCall}
 use Rattle.schedule_text.specs.Words.{ended, words_of}
 use Rattle.schedule_text.specs.Commands.{command_of}
 
@@ -25,9 +23,10 @@ abbrev pub passed_over : List (List ℕ) → Bool
 passed_over [] = true
 passed_over (w ∷ ws) = begins_with 35 w
 
-abbrev pub call_or_not : Result Command Reason → Line
-call_or_not (Ok command) = Call command
-call_or_not (Err reason) = NoCall reason
+abbrev pub called : Result Command Reason → Result (Option Command) Reason
+called (Ok command) = Ok (Some command)
+called (Err reason) = Err reason
 
-abbrev pub line_of : List ℕ → Line
-line_of line = cond (passed_over (words_of line)) PassedOver (call_or_not (command_of (words_of line)))
+-- what a line is: a call, none where it is passed over, or the reason why it is no call
+abbrev pub line_of : List ℕ → Result (Option Command) Reason
+line_of line = cond (passed_over (words_of line)) (Ok None) (called (command_of (words_of line)))

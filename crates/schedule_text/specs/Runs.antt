@@ -1,10 +1,8 @@
 -- What a schedule prints, and how its run ends.
-use Rattle.std.specs.Prelude.{ℕ, ◌+◌, List, [], ◌∷◌, ◌++◌, string_bytes, codes, decimal}
-use Rattle.schedule_text.specs.declared.line.Line.{Line}
-use Rattle.schedule_text.specs.declared.line.Line.TheVariants.{PassedOver, Call, NoCall}
+use Rattle.std.specs.Prelude.{ℕ, ◌+◌, List, [], ◌∷◌, ◌++◌, Some, None, Ok, Err, string_bytes, codes, decimal, Option, Result}
+use Rattle.schedule_text.specs.declared.command.Command.{Command}
 use Rattle.schedule_text.specs.declared.reason.Reason.{Reason}
-use Rattle.schedule_text.specs.declared.run.Ending.{Ending}
-use Rattle.schedule_text.specs.declared.run.Ending.TheVariants.{Done, Error}
+use Rattle.schedule_text.specs.declared.run.Stopped.{Stopped}
 use Rattle.schedule_text.specs.declared.run.Printout.{Printout}
 use Rattle.schedule_text.specs.Answers.{printed}
 use Rattle.schedule_text.specs.Lines.{lines_of, line_of}
@@ -12,7 +10,7 @@ use Rattle.schedule_text.specs.Reasons.{reason_text}
 
 pub record Told : Type 0 where
   pub text : List ℕ
-  pub ending : Ending
+  pub ending : Result (Unit {0}) Stopped
 
 abbrev pub told : Printout → Told
 told p = record { text = string_bytes p.text; ending = p.ending }
@@ -22,14 +20,14 @@ abbrev pub error_text : ℕ → Reason → List ℕ
 error_text k reason = codes "line " ++ (decimal k ++ (codes ": " ++ (reason_text reason ++ 10 ∷ [])))
 
 -- what a line adds to what the lines after it print; a line that is no call ends the run
-abbrev pub told_line : ℕ → Line → Told → Told
-told_line k PassedOver rest = rest
-told_line k (Call command) rest = record { text = printed command ++ rest.text; ending = rest.ending }
-told_line k (NoCall reason) rest = record { text = error_text k reason; ending = Error k }
+abbrev pub told_line : ℕ → Result (Option Command) Reason → Told → Told
+told_line k (Ok None) rest = rest
+told_line k (Ok (Some command)) rest = record { text = printed command ++ rest.text; ending = rest.ending }
+told_line k (Err reason) rest = record { text = error_text k reason; ending = Err (record { line = k }) }
 
 -- the lines from number k on
 abbrev pub told_from : ℕ → List (List ℕ) → Told
-told_from k [] = record { text = []; ending = Done }
+told_from k [] = record { text = []; ending = Ok tt }
 told_from k (line ∷ lines) = told_line k (line_of line) (told_from (k + 1) lines)
 
 abbrev pub help_text : List ℕ
@@ -38,5 +36,5 @@ help_text =
 
 -- with no input the help
 abbrev pub printout : List ℕ → Told
-printout [] = record { text = help_text; ending = Done }
+printout [] = record { text = help_text; ending = Ok tt }
 printout (c ∷ cs) = told_from 1 (lines_of (c ∷ cs))

@@ -10,14 +10,6 @@ use crate::words::words;
 use notation::cut::cut;
 use std::alloc::{AllocError, Global};
 
-// A line that says nothing, one that is a call, or one that is none.
-#[derive(Clone, Copy)]
-pub enum Line {
-    PassedOver,
-    Call(Command),
-    NoCall(Reason),
-}
-
 // The first line of an input that is not empty, and what follows it.
 pub fn first_line(input: &[u8]) -> (&[u8], &[u8])
     ensures lines { 0 < length input.now → lines_of input.now ≡ result.0.now ∷ lines_of result.1.now }
@@ -40,16 +32,16 @@ pub fn is_passed_over(words: &[&[u8]]) -> bool
     !first.is_empty() && first[0] == b'#'
 }
 
-// What a line is.
-pub fn read_line(heap: Global, line: &[u8]) -> Result<Line, AllocError>
+// What a line is: a call, none where it is passed over, or the reason why it is no call.
+pub fn read_line(
+    heap: Global,
+    line: &[u8],
+) -> Result<Result<Option<Command>, Reason>, AllocError>
     ensures { IfOk result (λ l. l ≡ line_of line.now) }
 {
     let words = words(heap, line)?;
     if is_passed_over(words.as_slice()) {
-        return Ok(Line::PassedOver);
+        return Ok(Ok(None));
     }
-    match parse(words.as_slice()) {
-        Ok(command) => Ok(Line::Call(command)),
-        Err(reason) => Ok(Line::NoCall(reason)),
-    }
+    Ok(parse(words.as_slice()).map(Some))
 }

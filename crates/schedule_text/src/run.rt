@@ -1,28 +1,39 @@
 // A whole schedule, from its text to the printout.
-ghost use Rattle.std.specs.Prelude.{◌≡◌, IfOk, string_bytes};
+ghost use Rattle.std.specs.Prelude.{◌≡◌, IfOk, Some, codes, string_bytes};
 ghost use Rattle.schedule_text.specs.Runs.{error_text, told, printout};
 
 use crate::answer::answer;
-use crate::line::{Line, first_line, read_line};
+use crate::line::{first_line, read_line};
 use crate::reason::Reason;
 use std::alloc::{AllocError, Global};
+use std::error::Error;
+use std::fmt;
 
 // What an empty input is answered with.
 const HELP: &str =
     "pick KIND LOWER UPPER\n  a stamp after LOWER and before UPPER, which may be none; KIND is whole or page\nform KIND VALUE\n  the written form of a stamp or value; KIND is whole, page, card or item\nread KIND DIGITS\n  the stamp or value of a written form of 16 or 24 hexadecimal digits\nvalues: whole 65536, page 3/17, card 4:mm:250, item withdrawn, solid:77 or sub:12:4\n";
 
-// How a run ended: after the last line, or at a line that is no call.
-#[derive(Clone, Copy)]
-pub enum Ending {
-    Done,
-    Error { line: usize },
+// The line at which a run stopped, since it is no call.
+#[derive(Clone, Copy, Debug, PartialEq, Eq)]
+pub struct Stopped {
+    pub line: usize,
 }
 
-// What a run prints, and how it ended.
+impl fmt::Display for Stopped {
+    ghost output = { λ _. Some (codes "a line is no call") };
+
+    fn fmt<W: fmt::Write>(&self, f: &mut fmt::Formatter<W>) -> fmt::Result {
+        f.write_str("a line is no call")
+    }
+}
+
+impl Error for Stopped {}
+
+// What a run prints, and whether it came to its end.
 #[derive(Drop)]
 pub struct Printout {
     pub text: String,
-    pub ending: Ending,
+    pub ending: Result<(), Stopped>,
 }
 
 // The line that says why a line is no call.
@@ -39,7 +50,7 @@ pub fn run(heap: Global, input: &[u8]) -> Result<Printout, AllocError>
     if input.is_empty() {
         return Ok(Printout {
             text: String::from_str(heap, HELP)?,
-            ending: Ending::Done,
+            ending: Ok(()),
         });
     }
     let mut text = String::new(heap);
@@ -50,23 +61,23 @@ pub fn run(heap: Global, input: &[u8]) -> Result<Printout, AllocError>
         rest = after;
         line += 1;
         match read_line(heap, this)? {
-            Line::PassedOver => {}
-            Line::Call(command) => {
+            Ok(None) => {}
+            Ok(Some(command)) => {
                 let said = answer(heap, command)?;
                 text.push_str(said.as_str())?;
             }
-            Line::NoCall(reason) => {
+            Err(reason) => {
                 let said = error_line(heap, line, reason)?;
                 text.push_str(said.as_str())?;
                 return Ok(Printout {
                     text,
-                    ending: Ending::Error { line },
+                    ending: Err(Stopped { line }),
                 });
             }
         }
     }
     Ok(Printout {
         text,
-        ending: Ending::Done,
+        ending: Ok(()),
     })
 }
