@@ -1,5 +1,6 @@
 // A whole schedule, from its text to the printout.
-ghost use Rattle.std.specs.Prelude.{◌≡◌, IfOk, Some, codes, string_bytes};
+ghost use Rattle.std.specs.Prelude.{◌≡◌, ◌↔◌, IfOk, IfErr, IsOk, IsTrue, Some, codes, eqb, string_bytes};
+ghost use Rattle.std.specs.List.{ends_with};
 ghost use Rattle.schedule_text.specs.Runs.{error_text, told, printout};
 
 use crate::answer::answer;
@@ -30,10 +31,36 @@ impl fmt::Display for Stopped {
 impl Error for Stopped {}
 
 // What a run prints, and whether it came to its end.
-#[derive(Drop)]
+#[derive(Debug, Drop)]
 pub struct Printout {
     pub text: String,
     pub ending: Result<(), Stopped>,
+}
+
+impl Printout {
+    // The printout is the error, unless its text is just this and its run ended so.
+    pub fn is(self, text: &str, ending: Result<(), Stopped>) -> Result<(), Printout>
+        ensures same { IsOk result ↔ ((string_bytes self.text ≡ text.now) × (self.ending ≡ ending)) }
+        ensures other { IfErr result (λ p. p ≡ self) }
+    {
+        if self.text.as_str() == text && self.ending == ending {
+            Ok(())
+        } else {
+            Err(self)
+        }
+    }
+
+    // The printout is the error, unless its text ends in this and its run ended so.
+    pub fn ends(self, text: &str, ending: Result<(), Stopped>) -> Result<(), Printout>
+        ensures same { IsOk result ↔ (IsTrue (ends_with eqb (string_bytes self.text) text.now) × (self.ending ≡ ending)) }
+        ensures other { IfErr result (λ p. p ≡ self) }
+    {
+        if self.text.as_bytes().ends_with(text.as_bytes()) && self.ending == ending {
+            Ok(())
+        } else {
+            Err(self)
+        }
+    }
 }
 
 // The line that says why a line is no call.
