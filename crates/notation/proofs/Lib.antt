@@ -1,1 +1,2 @@
+pub mod CutPlaces
 pub mod HexLaws

@@ -6,11 +6,10 @@ ghost use Rattle.notation.specs.CardLaws.{card_back, card_alike};
 use crate::cut::cut;
 use crate::numbers::number;
 use crate::text::Notation;
-use crate::words::is_word;
 use kinds::card::{Card, Unit};
 use std::fmt;
 
-const LARGEST: u64 = 4294967295;
+const LARGEST: u64 = u32::MAX as u64;
 
 // The word for a unit.
 pub fn unit_text(unit: Unit) -> &'static str
@@ -28,16 +27,12 @@ pub fn unit_text(unit: Unit) -> &'static str
 pub fn parse_unit(word: &[u8]) -> Option<Unit>
     ensures { result ≡ unit_named word.now }
 {
-    if is_word(word, "mm") {
-        Some(Unit::Millimetre)
-    } else if is_word(word, "cm") {
-        Some(Unit::Centimetre)
-    } else if is_word(word, "m") {
-        Some(Unit::Metre)
-    } else if is_word(word, "inch") {
-        Some(Unit::Inch)
-    } else {
-        None
+    match word {
+        b"mm" => Some(Unit::Millimetre),
+        b"cm" => Some(Unit::Centimetre),
+        b"m" => Some(Unit::Metre),
+        b"inch" => Some(Unit::Inch),
+        _ => None,
     }
 }
 

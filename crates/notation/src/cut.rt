@@ -6,10 +6,6 @@ ghost use Rattle.notation.specs.Cuts.{cut_at};
 pub fn cut(word: &[u8], mark: u8) -> Option<(&[u8], &[u8])>
     ensures { MatchOption result (cut_at mark word.now ≡ None) (λ p. cut_at mark word.now ≡ Some (record { front = p.0.now; back = p.1.now })) }
 {
-    for (i, c) in word.iter().enumerate() {
-        if *c == mark {
-            return Some((&word[0..i], &word[i + 1..]));
-        }
-    }
-    None
+    let at = word.iter().position(|c| *c == mark)?;
+    Some((&word[..at], &word[at + 1..]))
 }

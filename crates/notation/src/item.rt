@@ -10,9 +10,9 @@ use crate::words::is_word;
 use kinds::item::Item;
 use std::fmt;
 
-const LARGEST_SHAPE: u64 = 4294967295;
+const LARGEST_SHAPE: u64 = u32::MAX as u64;
 
-const LARGEST: u64 = 65535;
+const LARGEST: u64 = u16::MAX as u64;
 
 // A solid, by the number of its shape.
 fn parse_solid(word: &[u8]) -> Option<Item>
@@ -54,13 +54,10 @@ impl Notation for Item {
         if is_word(word, "withdrawn") {
             return Some(Item::Withdrawn);
         }
-        let (case, rest) = cut(word, b':')?;
-        if is_word(case, "solid") {
-            parse_solid(rest)
-        } else if is_word(case, "sub") {
-            parse_sub(rest)
-        } else {
-            None
+        match cut(word, b':')? {
+            (b"solid", shape) => parse_solid(shape),
+            (b"sub", parts) => parse_sub(parts),
+            _ => None,
         }
     }
 

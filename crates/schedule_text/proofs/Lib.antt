@@ -1,5 +1,4 @@
 pub mod AnswerLaws
-pub mod CommandLaws
 pub mod WordLaws
 pub mod LineLaws
 pub mod RunLaws

@@ -1,10 +1,10 @@
--- The first line of an input, and lines that are passed over.
-use Rattle.std.proofs.Common.{◌≡◌, ℕ, ◌-◌, ◌<◌, Bool, true, false, cond, eqb, List, [], ◌∷◌, ◌++◌, length, get_or, take, drop, Some, None, Option, sym, refl, ap, ◌∙◌, append_assoc, append-nil, arith, Bor}
+-- The first line of an input.
+use Rattle.std.proofs.Common.{◌≡◌, ℕ, ◌-◌, ◌<◌, Bool, true, false, cond, eqb, List, [], ◌∷◌, ◌++◌, length, take, drop, Some, None, Option, sym, refl, ap, ◌∙◌, append_assoc, append-nil, arith, Bor}
 use Rattle.std.specs.Option.{option_map}
 use Rattle.std.proofs.lemmas.List.{drop_all, take_all}
 use Rattle.notation.specs.Cuts.{Cut, longer, cut_at}
-use Rattle.schedule_text.specs.Words.{texts, ended}
-use Rattle.schedule_text.specs.Lines.{lines_on, lines_of, begins_with, passed_over}
+use Rattle.schedule_text.specs.Words.{ended}
+use Rattle.schedule_text.specs.Lines.{lines_on, lines_of}
 
 abbrev Lent : Type 0
 Lent = Bor (List ℕ)
@@ -64,20 +64,3 @@ only_line w e h = last_line w [] e ∙ some w h ∙ ap (λ l. w ∷ lines_of l) 
 
 pub nothing_follows : (w : List ℕ) → 0 < length w → length (take (length w - length w) (drop (length w) w)) < length w
 nothing_follows w h = let e = ap length (nothing w) in omega arith
-
--- by the first word
-pub passed_none : (ws : List Lent) → length ws ≡ 0 → passed_over (texts ws) ≡ true
-passed_none [] h = refl
-passed_none (w ∷ ws) h = absurd (omega arith)
-
-pub passed_by_first : (ws : List Lent) (d : Lent) → (length ws ≡ 0 → ⊥) → passed_over (texts ws) ≡ begins_with 35 (get_or ws 0 d).now
-passed_by_first [] d h = absurd (h refl)
-passed_by_first (w ∷ ws) d h = refl
-
-pub begins_none : (w : List ℕ) → length w ≡ 0 → begins_with 35 w ≡ false
-begins_none [] h = refl
-begins_none (c ∷ cs) h = absurd (omega arith)
-
-pub begins_some : (w : List ℕ) → (length w ≡ 0 → ⊥) → begins_with 35 w ≡ eqb (get_or w 0 0) 35
-begins_some [] h = absurd (h refl)
-begins_some (c ∷ cs) h = refl

@@ -1,6 +1,6 @@
 // What a command prints: the command itself and its answer.
 ghost use Rattle.std.specs.Prelude.{◌≡◌, IfOk, string_bytes};
-ghost use Rattle.schedule_text.specs.Answers.{pick_line, form_line, read_line, picked, formed, reading, printed};
+ghost use Rattle.schedule_text.specs.Answers.{pick_line, written_line, read_line, picked, formed, reading, printed};
 ghost use Rattle.schedule_text.specs.Laws.{FormsReadBack};
 
 use crate::command::{Between, Bounds, Command, Value, Written};
@@ -41,29 +41,12 @@ fn form_text<T: Notation>(
     value: T,
     form: &[u8],
 ) -> Result<String, AllocError>
-    ensures { IfOk result (λ t. string_bytes t ≡ form_line T.Notation.notes kind.now value form.now) }
+    requires { form.now ≡ T.Notation.notes.form.written value }
+    ensures { IfOk result (λ t. string_bytes t ≡ written_line T.Notation.notes kind.now value) }
 {
     let value = Shown(value);
     let form = Hex(form);
     format!(in heap; "form {kind} {value}: {form}\n")
-}
-
-// The form of a stamp.
-fn stamp_form<S: Stamp + Notation>(heap: Global, kind: &str, stamp: S) -> Result<String, AllocError>
-    ensures { IfOk result (λ t. string_bytes t ≡ form_line S.Notation.notes kind.now stamp (S.Stamp.kind.order.form.written stamp)) }
-{
-    form_text(heap, kind, stamp, &stamp.to_bytes())
-}
-
-// The form of a record's value.
-fn value_form<R: Record + Notation>(
-    heap: Global,
-    kind: &str,
-    value: R,
-) -> Result<String, AllocError>
-    ensures { IfOk result (λ t. string_bytes t ≡ form_line R.Notation.notes kind.now value (R.Record.kind.form.written value)) }
-{
-    form_text(heap, kind, value, &value.to_bytes())
 }
 
 // A reading: what the bytes are the form of, or `wrong`.
@@ -98,10 +81,10 @@ fn answer_form(heap: Global, value: Value) -> Result<String, AllocError>
     ensures { IfOk result (λ t. string_bytes t ≡ formed value) }
 {
     match value {
-        Value::OfWhole(stamp) => stamp_form(heap, "whole", stamp),
-        Value::OfPage(stamp) => stamp_form(heap, "page", stamp),
-        Value::OfCard(card) => value_form(heap, "card", card),
-        Value::OfItem(item) => value_form(heap, "item", item),
+        Value::OfWhole(stamp) => form_text(heap, "whole", stamp, &stamp.to_bytes()),
+        Value::OfPage(stamp) => form_text(heap, "page", stamp, &stamp.to_bytes()),
+        Value::OfCard(card) => form_text(heap, "card", card, &card.to_bytes()),
+        Value::OfItem(item) => form_text(heap, "item", item, &item.to_bytes()),
     }
 }
 

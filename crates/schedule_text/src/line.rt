@@ -25,11 +25,10 @@ pub fn first_line(input: &[u8]) -> (&[u8], &[u8])
 pub fn is_passed_over(words: &[&[u8]]) -> bool
     ensures { result ≡ passed_over (texts words.now) }
 {
-    if words.is_empty() {
-        return true;
+    match words {
+        [] => true,
+        [first, ..] => first.first() == Some(&b'#'),
     }
-    let first = words[0];
-    !first.is_empty() && first[0] == b'#'
 }
 
 // What a line is: a call, none where it is passed over, or the reason why it is no call.

@@ -11,22 +11,25 @@ use kinds::volume::VolumePage;
 use kinds::whole::Whole;
 use notation::hex::unhex;
 use notation::text::Notation;
-use notation::words::is_word;
 
 // A form's stamp or value, by kind.
 fn parse_value(kind: &[u8], word: &[u8]) -> Result<Value, Reason>
     ensures { result ≡ value_of kind.now word.now }
 {
-    if is_word(kind, "whole") {
-        Ok(Value::OfWhole(Whole::parse(word).ok_or(Reason::WholeStamp)?))
-    } else if is_word(kind, "page") {
-        Ok(Value::OfPage(VolumePage::parse(word).ok_or(Reason::PageStamp)?))
-    } else if is_word(kind, "card") {
-        Ok(Value::OfCard(Card::parse(word).ok_or(Reason::CardValue)?))
-    } else if is_word(kind, "item") {
-        Ok(Value::OfItem(Item::parse(word).ok_or(Reason::ItemValue)?))
-    } else {
-        Err(Reason::Kind)
+    match kind {
+        b"whole" => Whole::parse(word)
+            .map(Value::OfWhole)
+            .ok_or(Reason::WholeStamp),
+        b"page" => VolumePage::parse(word)
+            .map(Value::OfPage)
+            .ok_or(Reason::PageStamp),
+        b"card" => Card::parse(word)
+            .map(Value::OfCard)
+            .ok_or(Reason::CardValue),
+        b"item" => Item::parse(word)
+            .map(Value::OfItem)
+            .ok_or(Reason::ItemValue),
+        _ => Err(Reason::Kind),
     }
 }
 
@@ -34,16 +37,12 @@ fn parse_value(kind: &[u8], word: &[u8]) -> Result<Value, Reason>
 fn parse_written(kind: &[u8], word: &[u8]) -> Result<Written, Reason>
     ensures { result ≡ written_of kind.now word.now }
 {
-    if is_word(kind, "whole") {
-        Ok(Written::AsWhole(unhex(word).ok_or(Reason::StampForm)?))
-    } else if is_word(kind, "page") {
-        Ok(Written::AsPage(unhex(word).ok_or(Reason::StampForm)?))
-    } else if is_word(kind, "card") {
-        Ok(Written::AsCard(unhex(word).ok_or(Reason::ValueForm)?))
-    } else if is_word(kind, "item") {
-        Ok(Written::AsItem(unhex(word).ok_or(Reason::ValueForm)?))
-    } else {
-        Err(Reason::Kind)
+    match kind {
+        b"whole" => unhex(word).map(Written::AsWhole).ok_or(Reason::StampForm),
+        b"page" => unhex(word).map(Written::AsPage).ok_or(Reason::StampForm),
+        b"card" => unhex(word).map(Written::AsCard).ok_or(Reason::ValueForm),
+        b"item" => unhex(word).map(Written::AsItem).ok_or(Reason::ValueForm),
+        _ => Err(Reason::Kind),
     }
 }
 
@@ -51,12 +50,9 @@ fn parse_written(kind: &[u8], word: &[u8]) -> Result<Written, Reason>
 fn parse_upper<S: Notation>(word: &[u8]) -> Option<Option<S>>
     ensures { result ≡ upper_of S.Notation.notes.parsed word.now }
 {
-    if is_word(word, "none") {
-        return Some(None);
-    }
-    match S::parse(word) {
-        Some(stamp) => Some(Some(stamp)),
-        None => None,
+    match word {
+        b"none" => Some(None),
+        _ => S::parse(word).map(Some),
     }
 }
 
@@ -73,12 +69,14 @@ fn parse_between<S: Notation>(lower: &[u8], upper: &[u8]) -> Option<Between<S>>
 fn parse_bounds(kind: &[u8], lower: &[u8], upper: &[u8]) -> Result<Bounds, Reason>
     ensures { result ≡ bounds_of kind.now lower.now upper.now }
 {
-    if is_word(kind, "whole") {
-        Ok(Bounds::Wholes(parse_between(lower, upper).ok_or(Reason::WholeStamp)?))
-    } else if is_word(kind, "page") {
-        Ok(Bounds::Pages(parse_between(lower, upper).ok_or(Reason::PageStamp)?))
-    } else {
-        Err(Reason::StampKind)
+    match kind {
+        b"whole" => parse_between(lower, upper)
+            .map(Bounds::Wholes)
+            .ok_or(Reason::WholeStamp),
+        b"page" => parse_between(lower, upper)
+            .map(Bounds::Pages)
+            .ok_or(Reason::PageStamp),
+        _ => Err(Reason::StampKind),
     }
 }
 
@@ -86,48 +84,43 @@ fn parse_bounds(kind: &[u8], lower: &[u8], upper: &[u8]) -> Result<Bounds, Reaso
 fn parse_pick(words: &[&[u8]]) -> Result<Command, Reason>
     ensures { result ≡ pick_of (texts words.now) }
 {
-    if words.len() != 3 {
-        return Err(Reason::PickWords);
+    match words {
+        [kind, lower, upper] => parse_bounds(kind, lower, upper).map(Command::Pick),
+        _ => Err(Reason::PickWords),
     }
-    Ok(Command::Pick(parse_bounds(words[0], words[1], words[2])?))
 }
 
 // `form KIND VALUE`, after its first word.
 fn parse_form(words: &[&[u8]]) -> Result<Command, Reason>
     ensures { result ≡ form_of (texts words.now) }
 {
-    if words.len() != 2 {
-        return Err(Reason::FormWords);
+    match words {
+        [kind, value] => parse_value(kind, value).map(Command::Form),
+        _ => Err(Reason::FormWords),
     }
-    Ok(Command::Form(parse_value(words[0], words[1])?))
 }
 
 // `read KIND DIGITS`, after its first word.
 fn parse_read(words: &[&[u8]]) -> Result<Command, Reason>
     ensures { result ≡ read_of (texts words.now) }
 {
-    if words.len() != 2 {
-        return Err(Reason::ReadWords);
+    match words {
+        [kind, digits] => parse_written(kind, digits).map(Command::Read),
+        _ => Err(Reason::ReadWords),
     }
-    Ok(Command::Read(parse_written(words[0], words[1])?))
 }
 
 // The command that words are, or why they are none.
 pub fn parse(words: &[&[u8]]) -> Result<Command, Reason>
     ensures { result ≡ command_of (texts words.now) }
 {
-    if words.is_empty() {
+    let [name, rest @ ..] = words else {
         return Err(Reason::Command);
-    }
-    let name = words[0];
-    let rest = &words[1..];
-    if is_word(name, "pick") {
-        parse_pick(rest)
-    } else if is_word(name, "form") {
-        parse_form(rest)
-    } else if is_word(name, "read") {
-        parse_read(rest)
-    } else {
-        Err(Reason::Command)
+    };
+    match *name {
+        b"pick" => parse_pick(rest),
+        b"form" => parse_form(rest),
+        b"read" => parse_read(rest),
+        _ => Err(Reason::Command),
     }
 }

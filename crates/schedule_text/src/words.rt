@@ -8,18 +8,7 @@ use std::alloc::{AllocError, Global};
 pub fn words<'a>(heap: Global, line: &'a [u8]) -> Result<Vec<&'a [u8]>, AllocError>
     ensures { IfOk result (λ v. texts v.items ≡ words_of line.now) }
 {
-    let mut found = Vec::new(heap);
-    let mut start = 0;
-    for (i, c) in line.iter().enumerate() {
-        if *c == b' ' {
-            if start < i {
-                found.push(&line[start..i])?;
-            }
-            start = i + 1;
-        }
-    }
-    if start < line.len() {
-        found.push(&line[start..])?;
-    }
-    Ok(found)
+    line.split(|c| *c == b' ')
+        .filter(|word| !word.is_empty())
+        .collect(heap)
 }

@@ -1,15 +1,15 @@
-use Rattle.std.proofs.Common.{sym, ◌∙◌, arith}
-use Rattle.notation.specs.CutLaws.{passed_none, passed_more, passed_mark, passed_all}
+use Rattle.std.proofs.Common.{rules, sym, ◌∙◌, ◌==◌}
+use Rattle.std.proofs.lemmas.Iterator.{YieldsList-from_slice}
+use Rattle.std.proofs.lemmas.Iterator.Search.{position_from_yields_List}
+use Rattle.notation.proofs.CutPlaces.{cut_found, cut_missing}
 use Rattle.notation.proofs.cut.cut.Goals as goal
 
-pub loop-i-init : goal.loop-i-init
-loop-i-init c = passed_none c.args.mark c.args.word.now
-
-pub returns-then-c-mark : goal.returns-then-c-mark
-returns-then-c-mark c = sym c.loop-i.invariant ∙ passed_mark c.args.mark c.loop-i.i c.args.word.now c.loop-i-test.true c.if-c-mark.true
-
-pub loop-i-preserved : goal.loop-i-preserved
-loop-i-preserved c = sym (passed_more c.args.mark c.loop-i.i c.args.word.now c.loop-i-test.true c.if-c-mark.false) ∙ c.loop-i.invariant
+pub returns-in_err-at : goal.returns-in_err-at
+returns-in_err-at c =
+    let p = position_from_yields_List (λ b. b == c.args.mark) _ _ _ c.position.ensures.ran (YieldsList-from_slice c.args.word.now cc) (λ x b q k. search rules) in
+    rw c.from_residual.ensures (cut_missing c.args.mark c.args.word.now (sym c.in_err-at.was ∙ p))
 
 pub returns : goal.returns
-returns c = sym c.loop-i.invariant ∙ passed_all c.args.mark c.loop-i.i c.args.word.now (omega arith)
+returns c =
+    let p = position_from_yields_List (λ b. b == c.args.mark) _ _ _ c.position.ensures.ran (YieldsList-from_slice c.args.word.now cc) (λ x b q k. search rules) in
+    cut_found c.args.mark c.in_ok-at.at c.args.word.now (sym c.in_ok-at.was ∙ p)
