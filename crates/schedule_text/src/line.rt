@@ -1,5 +1,6 @@
 // The lines of an input, and what each one is.
 ghost use Rattle.std.specs.Prelude.{◌≡◌, ◌<◌, ◌∷◌, length, IfOk};
+ghost use Rattle.std.specs.Iterator.{YieldsFirstRef, at_most};
 ghost use Rattle.schedule_text.specs.Words.{texts};
 ghost use Rattle.schedule_text.specs.Lines.{lines_of, passed_over, line_of};
 
@@ -18,6 +19,27 @@ pub fn first_line(input: &[u8]) -> (&[u8], &[u8])
     match cut(input, b'\n') {
         Some(parts) => parts,
         None => (input, &input[input.len()..]),
+    }
+}
+
+// The lines of an input, each ended by a line feed; the last may lack it.
+#[derive(Clone, Copy)]
+pub struct Lines<'a>(pub &'a [u8]);
+
+impl<'a> Iterator for Lines<'a> {
+    type Item = &'a [u8];
+
+    ghost next_gives = { YieldsFirstRef (λ s. lines_of s.0.now) };
+
+    ghost remaining = { λ s. at_most (length s.0.now) };
+
+    fn next(&mut self) -> Option<&'a [u8]> {
+        if self.0.is_empty() {
+            return None;
+        }
+        let (line, rest) = first_line(self.0);
+        self.0 = rest;
+        Some(line)
     }
 }
 

@@ -4,15 +4,21 @@ ghost use Rattle.std.specs.List.{ends_with};
 ghost use Rattle.schedule_text.specs.Runs.{error_text, told, printout};
 
 use crate::answer::answer;
-use crate::line::{first_line, read_line};
+use crate::line::{Lines, read_line};
 use crate::reason::Reason;
 use std::alloc::{AllocError, Global};
 use std::error::Error;
 use std::fmt;
 
 // What an empty input is answered with.
-const HELP: &str =
-    "pick KIND LOWER UPPER\n  a stamp after LOWER and before UPPER, which may be none; KIND is whole or page\nform KIND VALUE\n  the written form of a stamp or value; KIND is whole, page, card or item\nread KIND DIGITS\n  the stamp or value of a written form of 16 or 24 hexadecimal digits\nvalues: whole 65536, page 3/17, card 4:mm:250, item withdrawn, solid:77 or sub:12:4\n";
+const HELP: &str = "pick KIND LOWER UPPER
+  a stamp after LOWER and before UPPER, which may be none; KIND is whole or page
+form KIND VALUE
+  the written form of a stamp or value; KIND is whole, page, card or item
+read KIND DIGITS
+  the stamp or value of a written form of 16 or 24 hexadecimal digits
+values: whole 65536, page 3/17, card 4:mm:250, item withdrawn, solid:77 or sub:12:4
+";
 
 // The line at which a run stopped, since it is no call.
 #[derive(Clone, Copy, Debug, PartialEq, Eq)]
@@ -81,21 +87,15 @@ pub fn run(heap: Global, input: &[u8]) -> Result<Printout, AllocError>
         });
     }
     let mut text = String::new(heap);
-    let mut rest = input;
-    let mut line = 0;
-    while !rest.is_empty() {
-        let (this, after) = first_line(rest);
-        rest = after;
-        line += 1;
-        match read_line(heap, this)? {
+    for (i, line) in Lines(input).enumerate() {
+        match read_line(heap, line)? {
             Ok(None) => {}
             Ok(Some(command)) => {
-                let said = answer(heap, command)?;
-                text.push_str(said.as_str())?;
+                text.push_str(answer(heap, command)?.as_str())?;
             }
             Err(reason) => {
-                let said = error_line(heap, line, reason)?;
-                text.push_str(said.as_str())?;
+                let line = i + 1;
+                text.push_str(error_line(heap, line, reason)?.as_str())?;
                 return Ok(Printout {
                     text,
                     ending: Err(Stopped { line }),
