@@ -1,5 +1,5 @@
 -- A form that is read again.
-use Rattle.std.proofs.Common.{◌≡◌, ℕ, List, [], ◌∷◌, ◌++◌, Some, None, codes, Option, ap, arith}
+use Rattle.std.proofs.Common.{◌≡◌, ℕ, List, [], ◌∷◌, ◌++◌, Some, None, codes, Option, ap}
 use Rattle.std.specs.Option.{option_map}
 use Rattle.kinds.specs.Forms.{Formed}
 use Rattle.kinds.specs.WholeLaws.{whole_laws}
@@ -22,7 +22,7 @@ use Rattle.schedule_text.specs.Laws.{read_again, FormsReadBack}
 module _ {X : Type 0} (n : Notes X) (w : ℕ) (laws : Formed w n.form) (alike : PrintsAlike n) where
   by : (x : X) (o : Option X) → option_map n.form.written o ≡ Some (n.form.written x) → text_or n o (codes "wrong") ≡ n.text x
   by x (Some y) e = let q : n.form.written y ≡ n.form.written x = cc in alike y x q
-  by x None e = let z : ◌≡◌ {A = ℕ} 0 1 = cc in absurd (omega arith)
+  by x None e = absurd (cc)
 
   again : (kind : List ℕ) (x : X) → reading_line n kind (n.form.written x) ≡ read_again n kind x
   again kind x =

@@ -1,24 +1,17 @@
 -- The first line of an input.
-use Rattle.std.proofs.Common.{◌≡◌, ℕ, ◌-◌, ◌<◌, Bool, true, false, cond, eqb, List, [], ◌∷◌, ◌++◌, length, take, drop, Some, None, Option, sym, refl, ap, ◌∙◌, append_assoc, append-nil, arith, Bor}
+use Rattle.std.proofs.Common.{◌≡◌, ℕ, ◌<◌, Bool, true, false, cond, eqb, List, [], ◌∷◌, ◌++◌, length, Some, None, Option, sym, refl, ap, ◌∙◌, append_assoc, append-nil, arith}
 use Rattle.std.specs.Option.{option_map}
-use Rattle.std.proofs.lemmas.List.{drop_all, take_all}
 use Rattle.notation.specs.Cuts.{Cut, longer, cut_at}
 use Rattle.schedule_text.specs.Words.{ended}
 use Rattle.schedule_text.specs.Lines.{lines_on, lines_of}
-
-abbrev Lent : Type 0
-Lent = Bor (List ℕ)
 
 -- what a cut at the first line feed says of the lines, where a line was begun
 pub record First (begun w : List ℕ) (p : Cut) : Type 0 where
   pub lines : lines_on begun w ≡ (begun ++ p.front) ∷ lines_on [] p.back
   pub shorter : length p.back < length w
 
-none_some : {X : Type 0} {A : Type 0} (x : X) → None ≡ Some x → A
-none_some x e = let z : ◌≡◌ {A = ℕ} 0 1 = cc in absurd (omega arith)
-
 pub cut_line : (w begun : List ℕ) (p : Cut) → cut_at 10 w ≡ Some p → First begun w p
-cut_line [] begun p e = none_some p e
+cut_line [] begun p e = absurd (cc)
 cut_line (c ∷ cs) begun p e = by (eqb c 10) (cut_at 10 cs) refl refl (cut_line cs (begun ++ c ∷ [])) e
   where
     by : (t : Bool) (o : Option Cut) → eqb c 10 ≡ t → cut_at 10 cs ≡ o → ((r : Cut) → cut_at 10 cs ≡ Some r → First (begun ++ c ∷ []) cs r) → cond t (Some (record { front = []; back = cs })) (option_map (longer c) o) ≡ Some p → First begun (c ∷ cs) p
@@ -28,7 +21,7 @@ cut_line (c ∷ cs) begun p e = by (eqb c 10) (cut_at 10 cs) refl refl (cut_line
           lines = ap (λ b. cond b (begun ∷ lines_on [] cs) (lines_on (begun ++ c ∷ []) cs)) t ∙ ap (λ b. b ∷ lines_on [] cs) (sym (append-nil begun)) ∙ ap (λ (r : Cut). (begun ++ r.front) ∷ lines_on [] r.back) at;
           shorter = let l : length cs ≡ length p.back = ap (λ (r : Cut). length r.back) at in omega arith;
         }
-    by false None t is more q = none_some p q
+    by false None t is more q = absurd (cc)
     by false (Some r) t is more q =
         let at : longer c r ≡ p = cc in
         let f = more r is in
@@ -42,25 +35,16 @@ last_line [] begun e = ap (λ b. ended b []) (sym (append-nil begun))
 last_line (c ∷ cs) begun e = by (eqb c 10) (cut_at 10 cs) refl refl (last_line cs (begun ++ c ∷ [])) e
   where
     by : (t : Bool) (o : Option Cut) → eqb c 10 ≡ t → cut_at 10 cs ≡ o → (cut_at 10 cs ≡ None → lines_on (begun ++ c ∷ []) cs ≡ ended ((begun ++ c ∷ []) ++ cs) []) → cond t (Some (record { front = []; back = cs })) (option_map (longer c) o) ≡ None → lines_on begun (c ∷ cs) ≡ ended (begun ++ c ∷ cs) []
-    by true o t is more q = none_some _ (sym q)
-    by false (Some r) t is more q = none_some _ (sym q)
+    by true o t is more q = absurd (cc)
+    by false (Some r) t is more q = absurd (cc)
     by false None t is more q =
         ap (λ b. cond b (begun ∷ lines_on [] cs) (lines_on (begun ++ c ∷ []) cs)) t ∙ more is
         ∙ ap (λ b. ended b []) (append_assoc begun (c ∷ []) cs)
 
--- nothing follows a last line that no line feed ends
-nothing : (w : List ℕ) → take (length w - length w) (drop (length w) w) ≡ []
-nothing w = ap (take (length w - length w)) (drop_all (length w) w (omega arith)) ∙ none (length w - length w)
-  where
-    none : (n : ℕ) → take {A = ℕ} n [] ≡ []
-    none n = take_all n [] (omega arith)
-
-pub only_line : (w : List ℕ) → cut_at 10 w ≡ None → 0 < length w → lines_of w ≡ w ∷ lines_of (take (length w - length w) (drop (length w) w))
-only_line w e h = last_line w [] e ∙ some w h ∙ ap (λ l. w ∷ lines_of l) (sym (nothing w))
+-- a last line that no line feed ends is the only one
+pub only_line : (w : List ℕ) → cut_at 10 w ≡ None → 0 < length w → lines_of w ≡ w ∷ []
+only_line w e h = last_line w [] e ∙ some w h
   where
     some : (v : List ℕ) → 0 < length v → ended v [] ≡ v ∷ []
     some [] h = absurd (omega arith)
     some (c ∷ cs) h = refl
-
-pub nothing_follows : (w : List ℕ) → 0 < length w → length (take (length w - length w) (drop (length w) w)) < length w
-nothing_follows w h = let e = ap length (nothing w) in omega arith

@@ -18,7 +18,7 @@ pub fn first_line(input: &[u8]) -> (&[u8], &[u8])
 {
     match cut(input, b'\n') {
         Some(parts) => parts,
-        None => (input, &input[input.len()..]),
+        None => (input, &[]),
     }
 }
 
