@@ -1,11 +1,10 @@
 -- Hexadecimal digits: what the loops have written and read, and that what is written is read back.
-use Rattle.std.proofs.Common.{◌≡◌, ℕ, zero, suc, ◌+◌, ◌-◌, ◌*◌, ◌/◌, ◌%◌, ◌<◌, List, [], ◌∷◌, ◌++◌, length, get_or, take, drop, set, Some, None, Option, sym, refl, ap, ◌∙◌, append_assoc, append-nil, arith}
-use lib.Utf8.{encode}
-use native.Mathlib.Nat.{sub-zero}
+use Rattle.std.proofs.Common.{◌≡◌, ℕ, zero, suc, ◌+◌, ◌-◌, ◌*◌, ◌/◌, ◌%◌, ◌^◌, ◌<◌, ◌≤◌, false, List, [], ◌∷◌, ◌++◌, length, get_or, take, drop, set, Some, None, Option, sym, refl, ap, ◌∙◌, append_assoc, append-nil, arith}
 use Rattle.std.specs.Option.{option_map}
+use Rattle.std.specs.Fmt.{padded_integral, format_spec, digits}
 use Rattle.std.proofs.lemmas.Bool.Decides.{nat_tests}
-use Rattle.std.proofs.lemmas.List.{take_more, take_more_set, take_all, drop_more, drop_all}
-use Rattle.std.proofs.lemmas.Str.Ascii.{encode_ascii}
+use Rattle.std.proofs.lemmas.List.{take_more, take_more_set, take_all, take_rest}
+use Rattle.std.proofs.lemmas.Fmt.{hex_byte}
 use Rattle.kinds.specs.Bytes.{Bytes}
 use Rattle.notation.specs.Hex.{hex, hex_digit, digit_value, byte_then, unhexed, ReadsBack}
 
@@ -13,83 +12,61 @@ hex_append : (xs ys : List ℕ) → hex (xs ++ ys) ≡ hex xs ++ hex ys
 hex_append [] ys = refl
 hex_append (x ∷ xs) ys = ap (λ l. hex_digit (x / 16) ∷ hex_digit (x % 16) ∷ l) (hex_append xs ys)
 
-digit_small : (h : ℕ) → h < 16 → hex_digit h < 128
-digit_small h l = grind (arith, nat_tests)
-
 -- one more byte is written
 pub hex_more : (bs : List ℕ) (i : ℕ) → i < length bs → hex (take (i + 1) bs) ≡ hex (take i bs) ++ hex_digit (get_or bs i 0 / 16) ∷ hex_digit (get_or bs i 0 % 16) ∷ []
 hex_more bs i h = ap hex (take_more bs i 0 h) ∙ hex_append (take i bs) (get_or bs i 0 ∷ [])
 
--- the same, by the characters that were written
-pub hex_one : (bs : List ℕ) (i h l : ℕ) → i < length bs → h ≡ hex_digit (get_or bs i 0 / 16) → l ≡ hex_digit (get_or bs i 0 % 16) → get_or bs i 0 < 256 → (hex (take i bs) ++ encode h) ++ encode l ≡ hex (take (i + 1) bs)
-hex_one bs i h l n e f b =
-    let p = encode_ascii (hex_digit (get_or bs i 0 / 16)) (digit_small (get_or bs i 0 / 16) (omega arith)) in
-    let q = encode_ascii (hex_digit (get_or bs i 0 % 16)) (digit_small (get_or bs i 0 % 16) (omega arith)) in
-    append_assoc (hex (take i bs)) (encode h) (encode l)
-    ∙ ap (λ x. hex (take i bs) ++ (encode x ++ encode l)) e ∙ ap (λ x. hex (take i bs) ++ (encode (hex_digit (get_or bs i 0 / 16)) ++ encode x)) f
-    ∙ ap (λ x. hex (take i bs) ++ (x ++ encode (hex_digit (get_or bs i 0 % 16)))) p ∙ ap (λ x. hex (take i bs) ++ ((hex_digit (get_or bs i 0 / 16) ∷ []) ++ x)) q
-    ∙ sym (hex_more bs i n)
-
--- digits of another number than two to a byte
-none_then : (a b : Option ℕ) → byte_then a b None ≡ None
-none_then (Some h) (Some l) = refl
-none_then (Some h) None = refl
-none_then None b = refl
-
-pub wrong_length : (n : ℕ) (ds : List ℕ) → (length ds ≡ 2 * n → ⊥) → unhexed n ds ≡ None
-wrong_length zero [] h = absurd (h refl)
-wrong_length zero (c ∷ cs) h = refl
-wrong_length (suc n) [] h = refl
-wrong_length (suc n) (c ∷ []) h = refl
-wrong_length (suc n) (c ∷ d ∷ ds) h =
-    ap (byte_then (digit_value c) (digit_value d)) (wrong_length n ds (λ e. h (omega arith))) ∙ none_then (digit_value c) (digit_value d)
+-- the same, by the text of `{:02x}`
+pub hex_printed : (bs : List ℕ) (i : ℕ) → i < length bs → get_or bs i 0 < 256 → hex (take i bs) ++ padded_integral (format_spec 32 0 4 2 (2 ^ 64 - 1)) false [] (digits 16 false (get_or bs i 0)) ≡ hex (take (i + 1) bs)
+hex_printed bs i h b = ap (λ ds. hex (take i bs) ++ ds) (hex_byte false (get_or bs i 0) b) ∙ sym (hex_more bs i h)
 
 -- the bytes so far, before those that are left
 abbrev pub so_far : List ℕ → Option (List ℕ) → Option (List ℕ)
 so_far xs rest = option_map (λ bs. xs ++ bs) rest
 
-so_far_none : (o : Option (List ℕ)) → so_far [] o ≡ o
-so_far_none None = refl
-so_far_none (Some bs) = refl
-
 so_far_one : (xs : List ℕ) (x : ℕ) (o : Option (List ℕ)) → so_far xs (option_map (λ bs. x ∷ bs) o) ≡ so_far (xs ++ x ∷ []) o
 so_far_one xs x None = refl
 so_far_one xs x (Some bs) = ap Some (sym (append_assoc xs (x ∷ []) bs))
 
--- two digits at the place of byte i
-two : (n i : ℕ) (w : List ℕ) → i < n → length w ≡ 2 * n → unhexed (n - i) (drop (2 * i) w) ≡ byte_then (digit_value (get_or w (2 * i) 0)) (digit_value (get_or w (2 * i + 1) 0)) (unhexed (n - (i + 1)) (drop (2 * (i + 1)) w))
-two n i w h e =
+-- two digits, and what follows them
+two : (n i : ℕ) (w : List ℕ) → i < n → 2 ≤ length w → unhexed (n - i) w ≡ byte_then (digit_value (get_or w 0 0)) (digit_value (get_or w 1 0)) (unhexed (n - (i + 1)) (take (length w - 2) (drop 2 w)))
+two n i [] h e = absurd (omega arith)
+two n i (c ∷ []) h e = absurd (omega arith)
+two n i (c ∷ d ∷ ds) h e =
     let count : n - i ≡ suc (n - (i + 1)) = omega arith in
-    let next : 2 * i + 1 + 1 ≡ 2 * (i + 1) = omega arith in
-    ap (λ k. unhexed k (drop (2 * i) w)) count
-    ∙ ap (unhexed (suc (n - (i + 1)))) (drop_more w (2 * i) 0 (omega arith) ∙ ap (λ l. get_or w (2 * i) 0 ∷ l) (drop_more w (2 * i + 1) 0 (omega arith)))
-    ∙ ap (λ k. byte_then (digit_value (get_or w (2 * i) 0)) (digit_value (get_or w (2 * i + 1) 0)) (unhexed (n - (i + 1)) (drop k w))) next
+    ap (λ k. unhexed k (c ∷ d ∷ ds)) count
+    ∙ ap (λ xs. byte_then (digit_value c) (digit_value d) (unhexed (n - (i + 1)) xs)) (sym (take_rest (c ∷ d ∷ ds) 2))
 
--- the loop's start, a digit that is none, one byte more, and its end
-pub read_none : (n : ℕ) (w : List ℕ) → so_far [] (unhexed (n - 0) w) ≡ unhexed n w
-read_none n w = so_far_none (unhexed (n - 0) w) ∙ ap (λ k. unhexed k w) (sub-zero n)
+-- fewer than two digits, a digit that is none, one byte more, and the loop's end
+pub read_short : (n i : ℕ) (w xs : List ℕ) → i < n → length w < 2 → so_far xs (unhexed (n - i) w) ≡ None
+read_short n i w xs h e = let count : n - i ≡ suc (n - (i + 1)) = omega arith in ap (λ k. so_far xs (unhexed k w)) count ∙ short w e
+  where
+    short : (v : List ℕ) → length v < 2 → so_far xs (unhexed (suc (n - (i + 1))) v) ≡ None
+    short [] e = refl
+    short (c ∷ []) e = refl
+    short (c ∷ d ∷ ds) e = absurd (omega arith)
 
-pub read_high : (n i : ℕ) (w xs : List ℕ) → i < n → length w ≡ 2 * n → digit_value (get_or w (2 * i) 0) ≡ None → so_far xs (unhexed (n - i) (drop (2 * i) w)) ≡ None
+pub read_high : (n i : ℕ) (w xs : List ℕ) → i < n → 2 ≤ length w → digit_value (get_or w 0 0) ≡ None → so_far xs (unhexed (n - i) w) ≡ None
 read_high n i w xs h e d =
-    ap (so_far xs) (two n i w h e ∙ ap (λ o. byte_then o (digit_value (get_or w (2 * i + 1) 0)) (unhexed (n - (i + 1)) (drop (2 * (i + 1)) w))) d)
+    ap (so_far xs) (two n i w h e ∙ ap (λ o. byte_then o (digit_value (get_or w 1 0)) (unhexed (n - (i + 1)) (take (length w - 2) (drop 2 w)))) d)
 
-pub read_low : (n i high : ℕ) (w xs : List ℕ) → i < n → length w ≡ 2 * n → digit_value (get_or w (2 * i) 0) ≡ Some high → digit_value (get_or w (2 * i + 1) 0) ≡ None → so_far xs (unhexed (n - i) (drop (2 * i) w)) ≡ None
+pub read_low : (n i high : ℕ) (w xs : List ℕ) → i < n → 2 ≤ length w → digit_value (get_or w 0 0) ≡ Some high → digit_value (get_or w 1 0) ≡ None → so_far xs (unhexed (n - i) w) ≡ None
 read_low n i high w xs h e d f =
-    let rest : Option (List ℕ) = unhexed (n - (i + 1)) (drop (2 * (i + 1)) w) in
-    ap (so_far xs) (two n i w h e ∙ ap (λ o. byte_then o (digit_value (get_or w (2 * i + 1) 0)) rest) d ∙ ap (λ o. byte_then (Some high) o rest) f)
+    let rest : Option (List ℕ) = unhexed (n - (i + 1)) (take (length w - 2) (drop 2 w)) in
+    ap (so_far xs) (two n i w h e ∙ ap (λ o. byte_then o (digit_value (get_or w 1 0)) rest) d ∙ ap (λ o. byte_then (Some high) o rest) f)
 
-pub read_byte : (n i high low : ℕ) (w xs : List ℕ) → i < n → length w ≡ 2 * n → length xs ≡ n → digit_value (get_or w (2 * i) 0) ≡ Some high → digit_value (get_or w (2 * i + 1) 0) ≡ Some low → so_far (take i xs) (unhexed (n - i) (drop (2 * i) w)) ≡ so_far (take (i + 1) (set xs i (high * 16 + low))) (unhexed (n - (i + 1)) (drop (2 * (i + 1)) w))
+pub read_byte : (n i high low : ℕ) (w xs : List ℕ) → i < n → 2 ≤ length w → length xs ≡ n → digit_value (get_or w 0 0) ≡ Some high → digit_value (get_or w 1 0) ≡ Some low → so_far (take i xs) (unhexed (n - i) w) ≡ so_far (take (i + 1) (set xs i (high * 16 + low))) (unhexed (n - (i + 1)) (take (length w - 2) (drop 2 w)))
 read_byte n i high low w xs h e l d f =
-    let rest : Option (List ℕ) = unhexed (n - (i + 1)) (drop (2 * (i + 1)) w) in
-    ap (so_far (take i xs)) (two n i w h e ∙ ap (λ o. byte_then o (digit_value (get_or w (2 * i + 1) 0)) rest) d ∙ ap (λ o. byte_then (Some high) o rest) f)
+    let rest : Option (List ℕ) = unhexed (n - (i + 1)) (take (length w - 2) (drop 2 w)) in
+    ap (so_far (take i xs)) (two n i w h e ∙ ap (λ o. byte_then o (digit_value (get_or w 1 0)) rest) d ∙ ap (λ o. byte_then (Some high) o rest) f)
     ∙ so_far_one (take i xs) (high * 16 + low) rest
     ∙ ap (λ ys. so_far ys rest) (sym (take_more_set xs i (high * 16 + low) (omega arith)))
 
-pub read_all : (n i : ℕ) (w xs : List ℕ) → n ≡ i → length w ≡ 2 * n → length xs ≡ n → so_far (take i xs) (unhexed (n - i) (drop (2 * i) w)) ≡ Some xs
-read_all n i w xs h e l =
+pub read_all : (n i : ℕ) (w xs : List ℕ) → n ≡ i → length w ≡ 0 → length xs ≡ n → so_far (take i xs) (unhexed (n - i) w) ≡ Some xs
+read_all n i (c ∷ cs) xs h e l = absurd (omega arith)
+read_all n i [] xs h e l =
     let none : n - i ≡ 0 = omega arith in
-    ap (λ k. so_far (take i xs) (unhexed k (drop (2 * i) w))) none ∙ ap (λ ds. so_far (take i xs) (unhexed 0 ds)) (drop_all (2 * i) w (omega arith))
-    ∙ ap Some (append-nil (take i xs) ∙ take_all i xs (omega arith))
+    ap (λ k. so_far (take i xs) (unhexed k [])) none ∙ ap Some (append-nil (take i xs) ∙ take_all i xs (omega arith))
 
 -- what is written is read back
 digit_back : (h : ℕ) → h < 16 → digit_value (hex_digit h) ≡ Some h
@@ -111,9 +88,6 @@ hex_back (b ∷ bs) h =
 digit_forth : (c h : ℕ) → digit_value c ≡ Some h → (hex_digit h ≡ c) × (h < 16)
 digit_forth c h e = (grind (arith, nat_tests), grind (arith, nat_tests))
 
-none_some : {X : Type 0} (x : X) → None ≡ Some x → ⊥
-none_some x e = let z : ◌≡◌ {A = ℕ} 0 1 = cc in omega arith
-
 hex_forth_byte : (a b : Option ℕ) (c d : ℕ) (ds bs : List ℕ) (o : Option (List ℕ)) → digit_value c ≡ a → digit_value d ≡ b → ((xs : List ℕ) → o ≡ Some xs → hex xs ≡ ds) → byte_then a b o ≡ Some bs → hex bs ≡ c ∷ d ∷ ds
 hex_forth_byte (Some h) (Some l) c d ds bs (Some xs) e f r q =
     let p = digit_forth c h e in
@@ -124,15 +98,15 @@ hex_forth_byte (Some h) (Some l) c d ds bs (Some xs) e f r q =
     let rest = r xs refl in
     ap hex (sym is) ∙ ap (λ x. hex_digit x ∷ hex_digit ((h * 16 + l) % 16) ∷ hex xs) high ∙ ap (λ x. hex_digit h ∷ hex_digit x ∷ hex xs) low
     ∙ ap (λ x. x ∷ hex_digit l ∷ hex xs) p.0 ∙ ap (λ x. c ∷ x ∷ hex xs) s.0 ∙ ap (λ x. c ∷ d ∷ x) rest
-hex_forth_byte (Some h) (Some l) c d ds bs None e f r q = absurd (none_some bs q)
-hex_forth_byte (Some h) None c d ds bs o e f r q = absurd (none_some bs q)
-hex_forth_byte None b c d ds bs o e f r q = absurd (none_some bs q)
+hex_forth_byte (Some h) (Some l) c d ds bs None e f r q = absurd (cc)
+hex_forth_byte (Some h) None c d ds bs o e f r q = absurd (cc)
+hex_forth_byte None b c d ds bs o e f r q = absurd (cc)
 
 hex_forth : (n : ℕ) (ds bs : List ℕ) → unhexed n ds ≡ Some bs → hex bs ≡ ds
 hex_forth zero [] bs e = let is : [] ≡ bs = cc in ap hex (sym is)
-hex_forth zero (c ∷ cs) bs e = absurd (none_some bs e)
-hex_forth (suc n) [] bs e = absurd (none_some bs e)
-hex_forth (suc n) (c ∷ []) bs e = absurd (none_some bs e)
+hex_forth zero (c ∷ cs) bs e = absurd (cc)
+hex_forth (suc n) [] bs e = absurd (cc)
+hex_forth (suc n) (c ∷ []) bs e = absurd (cc)
 hex_forth (suc n) (c ∷ d ∷ ds) bs e = hex_forth_byte (digit_value c) (digit_value d) c d ds bs (unhexed n ds) refl refl (hex_forth n ds) e
 
 pub reads_back : ReadsBack

@@ -11,7 +11,7 @@ use std::fmt;
 
 const LARGEST: u64 = u32::MAX as u64;
 
-// The word for a unit.
+// The word for a unit; a function, since a unit's `Display` could stand only in its own crate.
 pub fn unit_text(unit: Unit) -> &'static str
     ensures { result.now ≡ unit_name unit }
 {
@@ -49,13 +49,13 @@ impl Notation for Card {
     {
         let (revision, rest) = cut(word, b':')?;
         let (unit, mass) = cut(rest, b':')?;
-        let revision = number(revision, LARGEST)?;
+        let revision = number(revision, LARGEST)? as u32;
         let unit = parse_unit(unit)?;
-        let mass = number(mass, LARGEST)?;
+        let mass = number(mass, LARGEST)? as u32;
         Some(Card {
-            revision: revision as u32,
+            revision,
             unit,
-            mass: mass as u32,
+            mass,
         })
     }
 

@@ -18,10 +18,8 @@ const LARGEST: u64 = u16::MAX as u64;
 fn parse_solid(word: &[u8]) -> Option<Item>
     ensures { result ≡ solid_parsed word.now }
 {
-    let shape = number(word, LARGEST_SHAPE)?;
-    Some(Item::Solid {
-        shape: shape as u32,
-    })
+    let shape = number(word, LARGEST_SHAPE)? as u32;
+    Some(Item::Solid { shape })
 }
 
 // A sub-assembly, by its record's number and its count; a count of 0 is none.
@@ -29,15 +27,12 @@ fn parse_sub(word: &[u8]) -> Option<Item>
     ensures { result ≡ sub_parsed word.now }
 {
     let (part, count) = cut(word, b':')?;
-    let part = number(part, LARGEST)?;
-    let count = number(count, LARGEST)?;
+    let part = number(part, LARGEST)? as u16;
+    let count = number(count, LARGEST)? as u16;
     if count == 0 {
         return None;
     }
-    Some(Item::SubAssembly {
-        part: part as u16,
-        count: count as u16,
-    })
+    Some(Item::SubAssembly { part, count })
 }
 
 impl Notation for Item {

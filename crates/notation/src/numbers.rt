@@ -15,14 +15,11 @@ pub fn number(word: &[u8], most: u64) -> Option<u64>
         if !c.is_ascii_digit() {
             return None;
         }
-        if n > most / 10 {
-            return None;
-        }
         let digit = u64::from(*c - b'0');
-        if digit > most - n * 10 {
+        n = n.checked_mul(10)?.checked_add(digit)?;
+        if n > most {
             return None;
         }
-        n = n * 10 + digit;
     }
     Some(n)
 }

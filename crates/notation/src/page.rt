@@ -23,12 +23,9 @@ impl Notation for VolumePage {
         ensures { result ≡ page_parsed word.now }
     {
         let (volume, page) = cut(word, b'/')?;
-        let volume = number(volume, LAST)?;
-        let page = number(page, LAST)?;
-        Some(VolumePage {
-            volume: volume as u32,
-            page: page as u32,
-        })
+        let volume = number(volume, LAST)? as u32;
+        let page = number(page, LAST)? as u32;
+        Some(VolumePage { volume, page })
     }
 
     fn show<W: fmt::Write>(self, f: &mut fmt::Formatter<W>) -> fmt::Result {
