@@ -29,10 +29,7 @@ fn parse_sub(word: &[u8]) -> Option<Item>
     let (part, count) = cut(word, b':')?;
     let part = number(part, LARGEST)? as u16;
     let count = number(count, LARGEST)? as u16;
-    if count == 0 {
-        return None;
-    }
-    Some(Item::SubAssembly { part, count })
+    (count != 0).then_some(Item::SubAssembly { part, count })
 }
 
 impl Notation for Item {

@@ -2,10 +2,11 @@
 ghost use Rattle.std.specs.Prelude.{◌≡◌, Some};
 ghost use Rattle.schedule_text.specs.Reasons.{reason_text};
 
+use std::error::Error;
 use std::fmt;
 
 // What was expected where the line has something else.
-#[derive(Clone, Copy)]
+#[derive(Clone, Copy, Debug, PartialEq, Eq)]
 pub enum Reason {
     Command,
     PickWords,
@@ -22,7 +23,7 @@ pub enum Reason {
 }
 
 impl Reason {
-    // The reason in words.
+    // The reason in words. It stands beside `Display`, which borrows no text, for callers that choose among fixed texts.
     pub fn text(self) -> &'static str
         ensures { result.now ≡ reason_text self }
     {
@@ -50,3 +51,5 @@ impl fmt::Display for Reason {
         f.write_str(self.text())
     }
 }
+
+impl Error for Reason {}
