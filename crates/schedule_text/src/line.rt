@@ -58,8 +58,8 @@ pub fn read_line(heap: Global, line: &[u8]) -> Result<Result<Option<Command>, Re
     ensures { IfOk result (λ l. l ≡ line_of line.now) }
 {
     let words = words(heap, line)?;
-    if is_passed_over(words.as_slice()) {
+    if is_passed_over(&words) {
         return Ok(Ok(None));
     }
-    Ok(parse(words.as_slice()).map(Some))
+    Ok(parse(&words).map(Some))
 }

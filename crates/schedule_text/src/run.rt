@@ -91,11 +91,11 @@ pub fn run(heap: Global, input: &[u8]) -> Result<Printout, AllocError>
         match read_line(heap, line)? {
             Ok(None) => {}
             Ok(Some(command)) => {
-                text.push_str(answer(heap, command)?.as_str())?;
+                text.push_str(&answer(heap, command)?)?;
             }
             Err(reason) => {
                 let line = i + 1;
-                text.push_str(error_line(heap, line, reason)?.as_str())?;
+                text.push_str(&error_line(heap, line, reason)?)?;
                 return Ok(Printout {
                     text,
                     ending: Err(Stopped { line }),
