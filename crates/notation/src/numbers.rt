@@ -2,7 +2,8 @@
 ghost use Rattle.std.specs.Prelude.{◌≡◌, ◌≤◌, IfSome};
 ghost use Rattle.notation.specs.Numbers.{number_of};
 
-// The number that one or more decimal digits write, unless it is above the largest.
+// The number that one or more decimal digits write, unless it is above the largest. Callers cast it to the size
+// of their field: the bound proves that it fits, where `try_from` would test it once more.
 pub fn number(word: &[u8], most: u64) -> Option<u64>
     ensures value { result ≡ number_of most word.now }
     ensures bound { IfSome result (λ n. n ≤ most) }

@@ -53,7 +53,8 @@ pub fn is_passed_over(words: &[&[u8]]) -> bool
     }
 }
 
-// What a line is: a call, none where it is passed over, or the reason why it is no call.
+// What a line is: a call, none where it is passed over, or the reason why it is no call. A run tells that reason
+// and passes a lack of memory up, so the two stand apart.
 pub fn read_line(heap: Global, line: &[u8]) -> Result<Result<Option<Command>, Reason>, AllocError>
     ensures { IfOk result (λ l. l ≡ line_of line.now) }
 {

@@ -46,7 +46,7 @@ fn parse_written(kind: &[u8], word: &[u8]) -> Result<Written, Reason>
     }
 }
 
-// An upper bound: a stamp, or `none`.
+// An upper bound: a stamp, or `none`. The inner `None` is that bound, and the outer one a word that is neither.
 fn parse_upper<S: Notation>(word: &[u8]) -> Option<Option<S>>
     ensures { result ≡ upper_of S.Notation.notes.parsed word.now }
 {
@@ -80,7 +80,8 @@ fn parse_bounds(kind: &[u8], lower: &[u8], upper: &[u8]) -> Result<Bounds, Reaso
     }
 }
 
-// `pick KIND LOWER UPPER`, after its first word.
+// `pick KIND LOWER UPPER`, after its first word. Each command has a function of its own: in one match over all
+// words the proof of a wrong number of words did not close, in three forms.
 fn parse_pick(words: &[&[u8]]) -> Result<Command, Reason>
     ensures { result ≡ pick_of (texts words.now) }
 {
