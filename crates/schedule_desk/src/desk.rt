@@ -1,15 +1,15 @@
 // A desk: one registrar with its tables, the images it published, and the jobs and tickets by name.
 ghost use Rattle.std.specs.Prelude.{◌≡◌};
-ghost use Rattle.law.specs.HandOver.{with_tables, AccountedFor};
+ghost use Rattle.law.specs.HandOver.{AccountedFor};
+ghost use Rattle.office.specs.Store.{registry_kept};
 
 use crate::holdings::Holdings;
-use crate::images::Published;
 use crate::reason::Fault;
-use crate::store::{Store, blank};
 use kinds::stamp::Stamp;
-use law::handover::hand_over;
 use model::entry::Entry;
 use model::refusal::Refusal;
+use office::images::Published;
+use office::store::{Store, blank};
 use registrar::registrar::Registrar;
 use std::alloc::Global;
 
@@ -72,7 +72,7 @@ impl<S: Stamp, R: Copy> Desk<S, R> {
     // the journal.
     pub fn close(self) -> usize
         ensures jobs { result ≡ self.registrar.jobs }
-        ensures law { AccountedFor S.Stamp.kind (with_tables self.registrar self.store.rows.items self.store.firsts.items self.store.opening.items self.store.queue.items self.store.queued.items self.store.outcomes.items self.store.heads.items self.store.lines.items) }
+        ensures law { AccountedFor S.Stamp.kind (registry_kept self.registrar self.store) }
     {
         let Desk {
             heap: _,
@@ -83,16 +83,6 @@ impl<S: Stamp, R: Copy> Desk<S, R> {
             holdings,
         } = self;
         holdings.close();
-        hand_over(
-            &registrar,
-            store.rows.as_slice(),
-            store.firsts.as_slice(),
-            store.opening.as_slice(),
-            store.queue.as_slice(),
-            store.queued.as_slice(),
-            store.outcomes.as_slice(),
-            store.heads.as_slice(),
-            store.lines.as_slice(),
-        )
+        store.books(&registrar).hand_over()
     }
 }

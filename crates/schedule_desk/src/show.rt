@@ -4,7 +4,6 @@ use crate::answer::{ShownOutcome, standing_text};
 use crate::command::View;
 use crate::desk::Desk;
 use crate::holdings::Station;
-use crate::images::Published;
 use crate::log::Log;
 use crate::reason::{Fault, Reason};
 use kinds::stamp::Stamp;
@@ -12,6 +11,7 @@ use model::entry::Entry;
 use model::image::ImageRow;
 use model::row::Row;
 use notation::text::{Notation, Shown, ShownOr};
+use office::images::Published;
 use registrar::journal::Head;
 use std::fmt::Write;
 

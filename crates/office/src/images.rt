@@ -1,4 +1,8 @@
-// Published images, as a desk keeps them.
+// Published images, as the registrar's office keeps them.
+ghost use Rattle.std.specs.Prelude.{◌≡◌};
+ghost use Rattle.station.specs.Heard.{heard};
+ghost use Rattle.office.specs.Images.{image_kept};
+
 use crate::store::{no_outcome, places};
 use kinds::stamp::Stamp;
 use model::image::{Image, ImageRow};
@@ -17,15 +21,16 @@ pub struct Published<S: Copy, R: Copy> {
 impl<S: Stamp, R: Copy> Published<S, R> {
     // The image that carries number 0 and the opening rows. It was never published.
     pub fn opening(heap: Global, values: &[R]) -> Result<Published<S, R>, AllocError> {
-        let mut rows = Vec::with_capacity(heap, values.len())?;
-        for value in values {
-            rows.push(ImageRow {
+        let least = S::least();
+        let rows = values
+            .iter()
+            .map(|value| ImageRow {
                 value: *value,
-                write: S::least(),
-                read: S::least(),
+                write: least,
+                read: least,
                 first: None,
-            })?;
-        }
+            })
+            .collect(heap)?;
         Ok(Published {
             head: ImageHead {
                 records: values.len(),
@@ -38,12 +43,14 @@ impl<S: Stamp, R: Copy> Published<S, R> {
     }
 
     // The image as a station hears it.
-    pub fn image(&self) -> Image<'_, S, R> {
+    pub fn image(&self) -> Image<'_, S, R>
+        ensures { heard result ≡ image_kept self.now }
+    {
         Image {
             records: self.head.records,
             number: self.head.number,
-            rows: self.rows.as_slice(),
-            outcomes: self.outcomes.as_slice(),
+            rows: &self.rows,
+            outcomes: &self.outcomes,
             count: self.head.count,
         }
     }

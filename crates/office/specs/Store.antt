@@ -1,0 +1,42 @@
+-- A registrar's tables as their owner has them.
+use Rattle.std.specs.Prelude.{ℕ, ◌*◌, false, None, [], replicate}
+use Rattle.kinds.specs.Stamps.{Order}
+use Rattle.model.specs.declared.entry.Entry.{Entry}
+use Rattle.model.specs.declared.row.Row.{Row}
+use Rattle.model.specs.declared.verdict.Outcome.{Outcome}
+use Rattle.model.specs.declared.verdict.Verdict.TheVariants.{NoPlace}
+use Rattle.registrar.specs.declared.queue.Submission.{Submission}
+use Rattle.registrar.specs.declared.registrar.Registrar.{Registrar}
+use Rattle.registrar.specs.declared.journal.Head.{Head}
+use Rattle.registrar.specs.Registry.{Registry}
+use Rattle.registrar.specs.Calls.{registry_of, no_numbers}
+use Rattle.office.specs.declared.store.Store.{Store}
+
+-- a free place of a table of outcomes
+abbrev pub free_outcome : {S : Type 0} → Outcome S
+free_outcome = record { ticket = 0; verdict = NoPlace }
+
+module _ {S R : Type 0} where
+  -- the registry of a registrar's numbers and the tables that its office owns
+  abbrev pub registry_kept : Registrar → Store S R → Registry S R
+  registry_kept own s = registry_of own s.rows.items s.firsts.items s.opening.items s.queue.items s.queued.items s.outcomes.items s.heads.items s.lines.items
+
+  -- tables with no place
+  abbrev pub no_tables : Registry S R
+  no_tables = registry_of no_numbers [] [] [] [] [] [] [] []
+
+module _ {S R : Type 0} (o : Order S) where
+  -- an entry in a free place
+  abbrev pub blank_entry : R → Entry S R
+  blank_entry v = record { number = 0; noted = o.least; saw = v; wrote = v; seen = false; put = false; opened = false }
+
+  -- a row that is not founded yet
+  abbrev pub blank_row : R → Row S R
+  blank_row v = record { value = v; read = o.least; count = 1; one = o.least; two = o.least; three = o.least; four = o.least }
+
+  -- tables for n records and a journal of so many places, all of them free
+  abbrev pub unfounded : R → ℕ → ℕ → Registry S R
+  unfounded v n journal =
+      registry_of no_numbers (replicate n (blank_row v)) (replicate n None) (replicate n v)
+      (replicate 16 (record { ticket = 0; lower = o.least; upper = None; count = 0 })) (replicate 256 (blank_entry v)) (replicate 32 free_outcome)
+      (replicate journal (record { stamp = o.least; ticket = 0; place = 0; count = 0 })) (replicate (16 * journal) (blank_entry v))
