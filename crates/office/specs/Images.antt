@@ -1,11 +1,10 @@
 -- Published images as their owner has them.
-use Rattle.std.specs.Prelude.{List, None, map, length, replicate}
+use Rattle.std.specs.Prelude.{None}
 use Rattle.kinds.specs.Stamps.{Order}
 use Rattle.model.specs.declared.image.ImageRow.{ImageRow}
 use Rattle.station.specs.Station.{Image}
 use Rattle.registrar.specs.Calls.{image_with}
 use Rattle.office.specs.declared.images.Published.{Published}
-use Rattle.office.specs.Store.{free_outcome}
 
 module _ {S R : Type 0} where
   -- an image with the tables that its owner keeps
@@ -16,6 +15,3 @@ module _ {S R : Type 0} (o : Order S) where
   -- a row of the image that was never published
   abbrev pub opening_row : R → ImageRow S R
   opening_row v = record { value = v; write = o.least; read = o.least; first = None }
-
-  abbrev pub opening_image : List R → Image S R
-  opening_image values = image_with (record { records = length values; number = 0; count = 0 }) (map opening_row values) (replicate 32 free_outcome)

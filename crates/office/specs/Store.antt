@@ -1,5 +1,5 @@
 -- A registrar's tables as their owner has them.
-use Rattle.std.specs.Prelude.{ℕ, ◌*◌, false, None, [], replicate}
+use Rattle.std.specs.Prelude.{false, None, []}
 use Rattle.kinds.specs.Stamps.{Order}
 use Rattle.model.specs.declared.entry.Entry.{Entry}
 use Rattle.model.specs.declared.row.Row.{Row}
@@ -31,12 +31,13 @@ module _ {S R : Type 0} (o : Order S) where
   blank_entry v = record { number = 0; noted = o.least; saw = v; wrote = v; seen = false; put = false; opened = false }
 
   -- a row that is not founded yet
-  abbrev pub blank_row : R → Row S R
-  blank_row v = record { value = v; read = o.least; count = 1; one = o.least; two = o.least; three = o.least; four = o.least }
+  abbrev pub unfounded_row : R → Row S R
+  unfounded_row v = record { value = v; read = o.least; count = 1; one = o.least; two = o.least; three = o.least; four = o.least }
 
-  -- tables for n records and a journal of so many places, all of them free
-  abbrev pub unfounded : R → ℕ → ℕ → Registry S R
-  unfounded v n journal =
-      registry_of no_numbers (replicate n (blank_row v)) (replicate n None) (replicate n v)
-      (replicate 16 (record { ticket = 0; lower = o.least; upper = None; count = 0 })) (replicate 256 (blank_entry v)) (replicate 32 free_outcome)
-      (replicate journal (record { stamp = o.least; ticket = 0; place = 0; count = 0 })) (replicate (16 * journal) (blank_entry v))
+module _ {S : Type 0} (o : Order S) where
+  -- a free place of the queue, and one of the journal
+  abbrev pub free_submission : Submission S
+  free_submission = record { ticket = 0; lower = o.least; upper = None; count = 0 }
+
+  abbrev pub free_head : Head S
+  free_head = record { stamp = o.least; ticket = 0; place = 0; count = 0 }

@@ -1,7 +1,8 @@
 // Published images, as the registrar's office keeps them.
-ghost use Rattle.std.specs.Prelude.{◌≡◌};
+ghost use Rattle.std.specs.Prelude.{◌≡◌, length, map, replicate, IfOk};
 ghost use Rattle.station.specs.Heard.{heard};
-ghost use Rattle.office.specs.Images.{image_kept};
+ghost use Rattle.office.specs.Images.{image_kept, opening_row};
+ghost use Rattle.office.specs.Store.{free_outcome};
 
 use crate::store::{no_outcome, places};
 use kinds::stamp::Stamp;
@@ -18,26 +19,39 @@ pub struct Published<S: Copy, R: Copy> {
     pub outcomes: Vec<Outcome<S>>,
 }
 
+// What the image that was never published shows of the opening values.
+fn opening_rows<S: Stamp, R: Copy>(
+    heap: Global,
+    values: &[R],
+) -> Result<Vec<ImageRow<S, R>>, AllocError>
+    ensures { IfOk result (λ rows. rows.items ≡ map (opening_row S.Stamp.kind.order) values.now) }
+{
+    let least = S::least();
+    values
+        .iter()
+        .map(|value| ImageRow {
+            value: *value,
+            write: least,
+            read: least,
+            first: None,
+        })
+        .collect(heap)
+}
+
 impl<S: Stamp, R: Copy> Published<S, R> {
     // The image that carries number 0 and the opening rows. It was never published.
-    pub fn opening(heap: Global, values: &[R]) -> Result<Published<S, R>, AllocError> {
-        let least = S::least();
-        let rows = values
-            .iter()
-            .map(|value| ImageRow {
-                value: *value,
-                write: least,
-                read: least,
-                first: None,
-            })
-            .collect(heap)?;
+    pub fn opening(heap: Global, values: &[R]) -> Result<Published<S, R>, AllocError>
+        ensures head { IfOk result (λ p. p.head ≡ record { records = length values.now; number = 0; count = 0 }) }
+        ensures rows { IfOk result (λ p. p.rows.items ≡ map (opening_row S.Stamp.kind.order) values.now) }
+        ensures outcomes { IfOk result (λ p. p.outcomes.items ≡ replicate 32 free_outcome) }
+    {
         Ok(Published {
             head: ImageHead {
                 records: values.len(),
                 number: 0,
                 count: 0,
             },
-            rows,
+            rows: opening_rows(heap, values)?,
             outcomes: places(heap, no_outcome(), 32)?,
         })
     }

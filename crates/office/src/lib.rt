@@ -4,3 +4,5 @@
 
 pub mod images;
 pub mod store;
+#[cfg(test)]
+mod tests;

@@ -1,8 +1,8 @@
 // The tables of a registrar, as its office owns them.
-ghost use Rattle.std.specs.Prelude.{◌≡◌, IfOk, replicate};
+ghost use Rattle.std.specs.Prelude.{◌≡◌, ◌*◌, IfOk, replicate};
 ghost use Rattle.registrar.specs.Calls.{registry_in, no_numbers};
 ghost use Rattle.law.specs.HandOver.{registry_in_books};
-ghost use Rattle.office.specs.Store.{registry_kept, no_tables, blank_entry, free_outcome};
+ghost use Rattle.office.specs.Store.{registry_kept, no_tables, blank_entry, unfounded_row, free_outcome, free_submission, free_head};
 
 use kinds::stamp::Stamp;
 use law::handover::Books;
@@ -15,6 +15,7 @@ use registrar::queue::Submission;
 use registrar::registrar::Registrar;
 use std::alloc::{AllocError, Global};
 
+// The eight tables of a registrar.
 #[derive(Drop)]
 pub struct Store<S: Copy, R: Copy> {
     pub rows: Vec<Row<S, R>>,
@@ -62,47 +63,81 @@ pub fn no_outcome<S>() -> Outcome<S>
     }
 }
 
+// A row of this value, not founded yet.
+fn unfounded<S: Stamp, R: Copy>(value: R) -> Row<S, R>
+    ensures { result ≡ unfounded_row S.Stamp.kind.order value }
+{
+    let least = S::least();
+    Row {
+        value,
+        read: least,
+        count: 1,
+        one: least,
+        two: least,
+        three: least,
+        four: least,
+    }
+}
+
+// A free place of the queue.
+fn no_submission<S: Stamp>() -> Submission<S>
+    ensures { result ≡ free_submission S.Stamp.kind.order }
+{
+    Submission {
+        ticket: 0,
+        lower: S::least(),
+        upper: None,
+        count: 0,
+    }
+}
+
+// A free place of the journal.
+fn no_job<S: Stamp>() -> Head<S>
+    ensures { result ≡ free_head S.Stamp.kind.order }
+{
+    Head {
+        stamp: S::least(),
+        ticket: 0,
+        place: 0,
+        count: 0,
+    }
+}
+
+// The number of lines of a journal, 16 to each place for a job: there is no memory for more than a number holds.
+fn lines_of(journal: usize) -> Result<usize, AllocError>
+    ensures { IfOk result (λ lines. lines ≡ 16 * journal) }
+{
+    16usize.checked_mul(journal).ok_or(AllocError)
+}
+
 impl<S: Stamp, R: Copy> Store<S, R> {
-    // Tables for a register of as many records as there are values, of which `first` is one, with a
-    // journal of so many places.
+    // Tables for a register of so many records, with a journal of so many places. A value fills the places
+    // in which a value stands before the founding.
     pub fn new(
         heap: Global,
-        first: R,
+        value: R,
         records: usize,
         journal: usize,
-    ) -> Result<Store<S, R>, AllocError> {
-        let least = S::least();
-        let lines = journal.checked_mul(16).ok_or(AllocError)?;
-        let row = Row {
-            value: first,
-            read: least,
-            count: 1,
-            one: least,
-            two: least,
-            three: least,
-            four: least,
-        };
-        let submission = Submission {
-            ticket: 0,
-            lower: least,
-            upper: None,
-            count: 0,
-        };
-        let head = Head {
-            stamp: least,
-            ticket: 0,
-            place: 0,
-            count: 0,
-        };
+    ) -> Result<Store<S, R>, AllocError>
+        ensures rows { IfOk result (λ s. s.rows.items ≡ replicate records (unfounded_row S.Stamp.kind.order value)) }
+        ensures firsts { IfOk result (λ s. s.firsts.items ≡ replicate records None) }
+        ensures opening { IfOk result (λ s. s.opening.items ≡ replicate records value) }
+        ensures queue { IfOk result (λ s. s.queue.items ≡ replicate 16 (free_submission S.Stamp.kind.order)) }
+        ensures queued { IfOk result (λ s. s.queued.items ≡ replicate 256 (blank_entry S.Stamp.kind.order value)) }
+        ensures outcomes { IfOk result (λ s. s.outcomes.items ≡ replicate 32 free_outcome) }
+        ensures heads { IfOk result (λ s. s.heads.items ≡ replicate journal (free_head S.Stamp.kind.order)) }
+        ensures lines { IfOk result (λ s. s.lines.items ≡ replicate (16 * journal) (blank_entry S.Stamp.kind.order value)) }
+    {
+        let lines = lines_of(journal)?;
         Ok(Store {
-            rows: places(heap, row, records)?,
+            rows: places(heap, unfounded(value), records)?,
             firsts: places(heap, None, records)?,
-            opening: places(heap, first, records)?,
-            queue: places(heap, submission, 16)?,
-            queued: places(heap, blank(first), 256)?,
+            opening: places(heap, value, records)?,
+            queue: places(heap, no_submission(), 16)?,
+            queued: places(heap, blank(value), 256)?,
             outcomes: places(heap, no_outcome(), 32)?,
-            heads: places(heap, head, journal)?,
-            lines: places(heap, blank(first), lines)?,
+            heads: places(heap, no_job(), journal)?,
+            lines: places(heap, blank(value), lines)?,
         })
     }
 
@@ -122,7 +157,7 @@ impl<S: Stamp, R: Copy> Store<S, R> {
         }
     }
 
-    // The tables, lent to a call.
+    // The tables, lent to a call. What it leaves in them no clause can say: one on a loan names a single `&mut`.
     pub fn lend(&mut self) -> Tables<'_, S, R>
         ensures { registry_in no_numbers result ≡ registry_kept no_numbers self.old }
     {
