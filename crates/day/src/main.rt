@@ -38,6 +38,7 @@ impl Office {
         })
     }
 
+    // Publishes the next image.
     fn publish(&mut self) -> Result<u32, Refusal> {
         self.registrar.publish(
             self.store.lend(),
@@ -56,6 +57,7 @@ impl Office {
         self.registrar.submit(self.store.lend(), job, sheet)
     }
 
+    // Decides on the oldest submission.
     fn decide(&mut self) -> Result<Outcome<Whole>, Refusal> {
         self.registrar.decide(self.store.lend())
     }
@@ -81,8 +83,7 @@ fn work(
     let bracket = job.look(sheet, image, 1)?;
     let next = Card {
         revision: bracket.revision.saturating_add(1),
-        unit: bracket.unit,
-        mass: bracket.mass,
+        ..bracket
     };
     job.put(sheet, image, 1, next)?;
     Ok(frame)
@@ -95,6 +96,7 @@ fn verdict(
     sheet: &[Entry<Whole, Card>],
 ) -> Result<Verdict<Whole>, Refusal> {
     let ticket = office.submit(job, sheet).map_err(|(refusal, _)| refusal)?;
+    // a ticket is not let go by `?`: what is refused here shows when it is settled
     let _ = office.decide();
     let _ = office.publish();
     ticket.settle(office.image()).map_err(|(refusal, ticket)| {
@@ -103,6 +105,7 @@ fn verdict(
     })
 }
 
+// Publishes the first image, does one job, and answers what it saw of the frame and the verdict on it.
 fn day(
     office: &mut Office,
     sheet: &mut [Entry<Whole, Card>],
@@ -112,6 +115,11 @@ fn day(
     let frame = work(&mut job, sheet, office.image())?;
     let verdict = verdict(office, job, sheet)?;
     Ok((frame, verdict))
+}
+
+// Where the founding is refused there is no day.
+fn no_day(refusal: Refusal) -> anyhow::Error {
+    anyhow!("refused {}", u8::from(refusal))
 }
 
 fn main(rt: HostRuntime) -> anyhow::Result<()> {
@@ -128,10 +136,7 @@ fn main(rt: HostRuntime) -> anyhow::Result<()> {
     let values = [frame, bracket];
     let store = Store::new(rt.alloc(), frame, values.len(), 8)?;
     let published = Published::opening(rt.alloc(), &values)?;
-    let mut office = Office::found(&values, store, published).map_err(|refusal| anyhow!(
-        "refused {}",
-        refusal.number()
-    ))?;
+    let mut office = Office::found(&values, store, published).map_err(no_day)?;
     let mut sheet = [blank(frame); 16];
     match day(&mut office, &mut sheet) {
         Ok((seen, Verdict::Accepted { stamp })) => {
@@ -141,7 +146,7 @@ fn main(rt: HostRuntime) -> anyhow::Result<()> {
             )?;
         }
         Ok(_) => println!(rt; "the job is not accepted")?,
-        Err(refusal) => println!(rt; "refused {}", refusal.number())?,
+        Err(refusal) => println!(rt; "refused {}", u8::from(refusal))?,
     }
     let jobs = office.hand_over();
     println!(rt;
