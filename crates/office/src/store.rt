@@ -103,7 +103,8 @@ fn no_job<S: Stamp>() -> Head<S>
     }
 }
 
-// The number of lines of a journal, 16 to each place for a job: there is no memory for more than a number holds.
+// The number of lines of a journal, 16 for each place for a job. For more lines than a number counts there
+// is no memory.
 fn lines_of(journal: usize) -> Result<usize, AllocError>
     ensures { IfOk result (λ lines. lines ≡ 16 * journal) }
 {
@@ -157,7 +158,8 @@ impl<S: Stamp, R: Copy> Store<S, R> {
         }
     }
 
-    // The tables, lent to a call. What it leaves in them no clause can say: one on a loan names a single `&mut`.
+    // The tables, lent to a call. What the call leaves in them no clause can say: a clause on a loan names
+    // one `&mut` or two, and these are eight.
     pub fn lend(&mut self) -> Tables<'_, S, R>
         ensures { registry_in no_numbers result ≡ registry_kept no_numbers self.old }
     {
