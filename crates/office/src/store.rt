@@ -15,7 +15,7 @@ use registrar::queue::Submission;
 use registrar::registrar::Registrar;
 use std::alloc::{AllocError, Global};
 
-// The eight tables of a registrar.
+// The eight tables of a registrar, beside one another as its calls are handed them.
 #[derive(Drop)]
 pub struct Store<S: Copy, R: Copy> {
     pub rows: Vec<Row<S, R>>,
