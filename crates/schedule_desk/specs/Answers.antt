@@ -1,4 +1,4 @@
--- What a call and its answer print.
+-- What the answer of a call prints.
 use Rattle.std.specs.Prelude.{ℕ, ◌+◌, min, Bool, true, false, List, [], ◌∷◌, ◌++◌, string_bytes, codes, decimal}
 use Rattle.model.specs.Refusals.{refusal_number}
 use Rattle.model.specs.declared.verdict.Outcome.{Outcome}
@@ -9,8 +9,6 @@ use Rattle.station.specs.declared.job.Standing.{Standing}
 use Rattle.station.specs.declared.job.Standing.TheVariants.{Live, Shut}
 use Rattle.schedule_desk.specs.declared.answer.Answer.{Answer}
 use Rattle.schedule_desk.specs.declared.answer.Answer.TheVariants.{Records, Image, Stands, Value, Done, Ticket, Decided, Settled, Refused}
-use Rattle.schedule_desk.specs.declared.command.Call.{Call}
-use Rattle.schedule_desk.specs.declared.command.Call.TheVariants.{Publish, Open, Look, Put, Tune, Submit, Decide, Settle, Waive}
 
 abbrev pub verdict_text : {S : Type 0} → Notes S → Verdict S → List ℕ
 verdict_text n (Accepted s) = codes "accepted " ++ n.text s
@@ -35,18 +33,6 @@ answer_text s r (Ticket k) = codes "ticket " ++ decimal k
 answer_text s r (Decided o) = outcome_text s o
 answer_text s r (Settled v) = verdict_text s v
 answer_text s r (Refused e) = codes "refused " ++ decimal (refusal_number e)
-
--- the words before the colon
-abbrev pub call_text : {R : Type 0} → Call R → List ℕ
-call_text Publish = codes "publish"
-call_text (Open name image) = codes "open " ++ string_bytes name
-call_text (Look name record' at) = codes "look " ++ (string_bytes name ++ 32 ∷ string_bytes record'.digits)
-call_text (Put name record' value at) = codes "put " ++ (string_bytes name ++ 32 ∷ string_bytes record'.digits)
-call_text (Tune name image) = codes "tune " ++ string_bytes name
-call_text (Submit name) = codes "submit " ++ string_bytes name
-call_text Decide = codes "decide"
-call_text (Settle name image) = codes "settle " ++ string_bytes name
-call_text (Waive name) = codes "waive " ++ string_bytes name
 
 -- whether an answer is a refusal
 abbrev pub refuses : {S R : Type 0} → Answer S R → Bool

@@ -1,14 +1,14 @@
 // Calls of the library, as a desk makes them.
 use crate::answer::Answer;
-use crate::command::Call;
 use crate::desk::Desk;
 use crate::holdings::{Holding, Station};
-use crate::reason::{Fault, Reason};
 use kinds::stamp::Stamp;
 use model::image::Image;
 use office::images::Published;
 use office::store::places;
 use registrar::ticket::Ticket;
+use schedule_calls::command::Call;
+use schedule_calls::reason::{Fault, Reason};
 use station::job::{Job, Standing};
 use std::alloc::Global;
 

@@ -4,13 +4,13 @@ ghost use Rattle.law.specs.HandOver.{AccountedFor};
 ghost use Rattle.office.specs.Store.{registry_kept};
 
 use crate::holdings::Holdings;
-use crate::reason::Fault;
 use kinds::stamp::Stamp;
 use model::entry::Entry;
 use model::refusal::Refusal;
 use office::images::Published;
 use office::store::{Store, blank};
 use registrar::registrar::Registrar;
+use schedule_calls::reason::Fault;
 use std::alloc::Global;
 
 pub struct Desk<S: Copy, R: Copy> {

@@ -1,8 +1,8 @@
 // What names stand for: jobs with their sheets, and tickets.
 use crate::names::Names;
-use crate::reason::Fault;
 use model::entry::Entry;
 use registrar::ticket::Ticket;
+use schedule_calls::reason::Fault;
 use station::job::Job;
 use std::alloc::{AllocError, Global};
 use std::mem;

@@ -5,14 +5,10 @@
 
 pub mod act;
 pub mod answer;
-pub mod command;
 pub mod desk;
 pub mod holdings;
 pub mod log;
 pub mod names;
-pub mod numbers;
-pub mod parse;
-pub mod reason;
 pub mod run;
 pub mod session;
 pub mod show;

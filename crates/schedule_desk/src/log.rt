@@ -1,11 +1,12 @@
 // The printout, and what it counts.
 ghost use Rattle.std.specs.Prelude.{◌≡◌, ◌++◌, if◌then◌else◌, string_bytes, codes, OnOk};
-ghost use Rattle.schedule_desk.specs.Answers.{answer_line, call_text, last_line, one_more, refuses};
+ghost use Rattle.schedule_calls.specs.Calls.{call_text};
+ghost use Rattle.schedule_desk.specs.Answers.{answer_line, last_line, one_more, refuses};
 
 use crate::answer::Answer;
-use crate::command::Call;
-use crate::reason::{Fault, Reason};
 use notation::text::Notation;
+use schedule_calls::command::Call;
+use schedule_calls::reason::{Fault, Reason};
 use std::alloc::Global;
 use std::fmt::Write;
 

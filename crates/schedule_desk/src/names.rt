@@ -1,7 +1,7 @@
 // Names, each with a place of its own.
 ghost use Rattle.std.specs.Prelude.{◌≡◌, ◌<◌, vec_len};
 
-use crate::reason::Fault;
+use schedule_calls::reason::Fault;
 use std::alloc::{AllocError, Global};
 use std::collections::BTreeMap;
 

@@ -1,7 +1,7 @@
 // A whole schedule, from its text to the printout.
 use crate::log::Log;
-use crate::reason::Fault;
 use crate::session::Session;
+use schedule_calls::reason::Fault;
 use schedule_text::line::{first_line, is_passed_over};
 use schedule_text::run::{Ending, Printout};
 use schedule_text::words::words;

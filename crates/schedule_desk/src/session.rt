@@ -1,11 +1,7 @@
 // A session: the desk of a schedule, by stamp kind and record kind.
 use crate::answer::Answer;
-use crate::command::Command;
 use crate::desk::Desk;
 use crate::log::Log;
-use crate::numbers::capped;
-use crate::parse::{parse, parse_value};
-use crate::reason::{Fault, Form, Reason};
 use kinds::card::Card;
 use kinds::item::Item;
 use kinds::stamp::Stamp;
@@ -13,6 +9,10 @@ use kinds::volume::VolumePage;
 use kinds::whole::Whole;
 use notation::text::Notation;
 use notation::words::is_word;
+use schedule_calls::command::Command;
+use schedule_calls::numbers::capped;
+use schedule_calls::parse::{parse, parse_value};
+use schedule_calls::reason::{Fault, Form, Reason};
 use schedule_text::answer::answer;
 use schedule_text::parse::parse as parse_on_kinds;
 use std::alloc::Global;

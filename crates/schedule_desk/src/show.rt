@@ -1,11 +1,9 @@
 // States, as a desk prints them.
 use crate::act::no_job;
 use crate::answer::{ShownOutcome, standing_text};
-use crate::command::View;
 use crate::desk::Desk;
 use crate::holdings::Station;
 use crate::log::Log;
-use crate::reason::{Fault, Reason};
 use kinds::stamp::Stamp;
 use model::entry::Entry;
 use model::image::ImageRow;
@@ -13,6 +11,8 @@ use model::row::Row;
 use notation::text::{Notation, Shown, ShownOr};
 use office::images::Published;
 use registrar::journal::Head;
+use schedule_calls::command::View;
+use schedule_calls::reason::{Fault, Reason};
 use std::fmt::Write;
 
 // A version of a row behind a space, where the row has so many.

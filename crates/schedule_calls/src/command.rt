@@ -1,6 +1,6 @@
 // The commands on a register.
 ghost use Rattle.std.specs.Prelude.{Some};
-ghost use Rattle.schedule_desk.specs.Answers.{call_text};
+ghost use Rattle.schedule_calls.specs.Calls.{call_text};
 
 use crate::numbers::Number;
 use std::fmt;

@@ -1,0 +1,15 @@
+-- What a call prints before the colon of its answer.
+use Rattle.std.specs.Prelude.{ℕ, List, ◌∷◌, ◌++◌, string_bytes, codes}
+use Rattle.schedule_calls.specs.declared.command.Call.{Call}
+use Rattle.schedule_calls.specs.declared.command.Call.TheVariants.{Publish, Open, Look, Put, Tune, Submit, Decide, Settle, Waive}
+
+abbrev pub call_text : {R : Type 0} → Call R → List ℕ
+call_text Publish = codes "publish"
+call_text (Open name image) = codes "open " ++ string_bytes name
+call_text (Look name record' at) = codes "look " ++ (string_bytes name ++ 32 ∷ string_bytes record'.digits)
+call_text (Put name record' value at) = codes "put " ++ (string_bytes name ++ 32 ∷ string_bytes record'.digits)
+call_text (Tune name image) = codes "tune " ++ string_bytes name
+call_text (Submit name) = codes "submit " ++ string_bytes name
+call_text Decide = codes "decide"
+call_text (Settle name image) = codes "settle " ++ string_bytes name
+call_text (Waive name) = codes "waive " ++ string_bytes name
