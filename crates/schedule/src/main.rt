@@ -3,9 +3,7 @@
 
 #![tactic(auto)]
 
-use anyhow::anyhow;
 use schedule_desk::run::run;
-use schedule_text::run::Ending;
 use std::io::{Read, Write};
 
 fn main(rt: HostRuntime) -> anyhow::Result<()> {
@@ -13,8 +11,5 @@ fn main(rt: HostRuntime) -> anyhow::Result<()> {
     rt.stdin().read_to_end(&mut input)?;
     let printout = run(rt.alloc(), input.as_slice())?;
     rt.stdout().write_all(printout.text.as_bytes())?;
-    match printout.ending {
-        Ending::Done => Ok(()),
-        Ending::Error { line: _ } => Err(anyhow!("a line is no call")),
-    }
+    Ok(printout.ending?)
 }

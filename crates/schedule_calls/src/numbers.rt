@@ -23,12 +23,7 @@ impl fmt::Display for Number {
 
 // Whether a word is one or more decimal digits.
 fn is_number(word: &[u8]) -> bool {
-    for c in word {
-        if !c.is_ascii_digit() {
-            return false;
-        }
-    }
-    !word.is_empty()
+    !word.is_empty() && word.iter().all(|c| c.is_ascii_digit())
 }
 
 // The number that a word of digits writes, or the largest where it is above that.
@@ -38,10 +33,7 @@ pub fn capped(word: &[u8], most: u64) -> Result<u64, Reason>
     if !is_number(word) {
         return Err(Reason::Number);
     }
-    match number(word, most) {
-        Some(n) => Ok(n),
-        None => Ok(most),
-    }
+    Ok(number(word, most).unwrap_or(most))
 }
 
 // A number of the library's, or the largest.
@@ -49,28 +41,16 @@ pub fn parse_index(word: &[u8]) -> Result<usize, Reason> {
     Ok(capped(word, u64::MAX)? as usize)
 }
 
-// The digits from the first that is not 0, and at least the last one.
-fn stripped(word: &[u8]) -> &[u8] {
-    for (i, c) in word.iter().enumerate() {
-        if *c != b'0' {
-            return &word[i..];
-        }
-    }
-    if word.is_empty() {
-        word
-    } else {
-        &word[word.len() - 1..]
-    }
-}
-
-// A number with its digits.
+// A number with its digits; of zeros alone one is kept.
 pub fn parse_number(heap: Global, word: &[u8]) -> Result<Number, Fault> {
     let value = parse_index(word)?;
-    match std::str::from_utf8(stripped(word)) {
-        Ok(digits) => Ok(Number {
-            digits: String::from_str(heap, digits)?,
-            value,
-        }),
-        Err(_) => Err(Fault::NoCall(Reason::Number)),
-    }
+    let written = std::str::from_utf8(word).map_err(|_| Reason::Number)?;
+    let digits = match written.trim_start_matches('0') {
+        "" => "0",
+        digits => digits,
+    };
+    Ok(Number {
+        digits: String::from_str(heap, digits)?,
+        value,
+    })
 }

@@ -44,10 +44,9 @@ pub enum Form {
     Image,
 }
 
-impl Form {
-    // The form in words.
-    pub fn text(self) -> &'static str {
-        match self {
+impl fmt::Display for Form {
+    fn fmt<W: fmt::Write>(&self, f: &mut fmt::Formatter<W>) -> fmt::Result {
+        f.write_str(match self {
             Form::Found => "found STAMPKIND RECORDKIND PLACES VALUE ...",
             Form::Publish => "publish",
             Form::Open => "open NAME IMAGE",
@@ -63,45 +62,29 @@ impl Form {
             Form::Job => "job NAME",
             Form::Journal => "journal",
             Form::Image => "image IMAGE",
-        }
-    }
-}
-
-impl Reason {
-    // The reason in words, but for a name that follows them.
-    fn text(&self) -> &'static str {
-        match self {
-            Reason::OnKinds(reason) => reason.text(),
-            Reason::Command => "expected a command; an empty input prints them all",
-            Reason::Words(form) => form.text(),
-            Reason::StampKind => "expected the stamp kind whole or page",
-            Reason::RecordKind => "expected the record kind card or item",
-            Reason::Number => "expected a number",
-            Reason::Name => "expected a name of letters and digits",
-            Reason::Value => "expected a value of the register's record kind",
-            Reason::NotFounded => "expected found first",
-            Reason::FoundRefused => "found was refused, so there is no register",
-            Reason::FoundTwice => "found stands once",
-            Reason::NoJob(_) => "no job of this name: ",
-            Reason::NoTicket(_) => "no ticket of this name: ",
-            Reason::Standing(_) => "a job or ticket of this name stands: ",
-            Reason::NoImage => "no image of this number was published",
-            Reason::NoRecord => "no record of this number",
-        }
+        })
     }
 }
 
 impl fmt::Display for Reason {
     fn fmt<W: fmt::Write>(&self, f: &mut fmt::Formatter<W>) -> fmt::Result {
-        if let Reason::Words(_) = self {
-            f.write_str("expected ")?;
-        }
-        f.write_str(self.text())?;
         match self {
-            Reason::NoJob(name) => f.write_str(name.as_str()),
-            Reason::NoTicket(name) => f.write_str(name.as_str()),
-            Reason::Standing(name) => f.write_str(name.as_str()),
-            _ => Ok(()),
+            Reason::OnKinds(reason) => write!(f, "{reason}"),
+            Reason::Command => { write!(f, "expected a command; an empty input prints them all") }
+            Reason::Words(form) => write!(f, "expected {form}"),
+            Reason::StampKind => write!(f, "expected the stamp kind whole or page"),
+            Reason::RecordKind => write!(f, "expected the record kind card or item"),
+            Reason::Number => write!(f, "expected a number"),
+            Reason::Name => write!(f, "expected a name of letters and digits"),
+            Reason::Value => write!(f, "expected a value of the register's record kind"),
+            Reason::NotFounded => write!(f, "expected found first"),
+            Reason::FoundRefused => write!(f, "found was refused, so there is no register"),
+            Reason::FoundTwice => write!(f, "found stands once"),
+            Reason::NoJob(name) => write!(f, "no job of this name: {name}"),
+            Reason::NoTicket(name) => write!(f, "no ticket of this name: {name}"),
+            Reason::Standing(name) => write!(f, "a job or ticket of this name stands: {name}"),
+            Reason::NoImage => write!(f, "no image of this number was published"),
+            Reason::NoRecord => write!(f, "no record of this number"),
         }
     }
 }

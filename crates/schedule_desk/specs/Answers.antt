@@ -1,6 +1,7 @@
 -- What the answer of a call prints.
-use Rattle.std.specs.Prelude.{ℕ, ◌+◌, min, Bool, true, false, List, [], ◌∷◌, ◌++◌, string_bytes, codes, decimal}
+use Rattle.std.specs.Prelude.{ℕ, ◌+◌, min, List, [], ◌∷◌, ◌++◌, codes, decimal, Result, Ok, Err}
 use Rattle.model.specs.Refusals.{refusal_number}
+use Rattle.model.specs.declared.refusal.Refusal.{Refusal}
 use Rattle.model.specs.declared.verdict.Outcome.{Outcome}
 use Rattle.model.specs.declared.verdict.Verdict.{Verdict}
 use Rattle.model.specs.declared.verdict.Verdict.TheVariants.{Accepted, Overtaken, Gone, NoPlace}
@@ -8,7 +9,7 @@ use Rattle.notation.specs.Text.{Notes}
 use Rattle.station.specs.declared.job.Standing.{Standing}
 use Rattle.station.specs.declared.job.Standing.TheVariants.{Live, Shut}
 use Rattle.schedule_desk.specs.declared.answer.Answer.{Answer}
-use Rattle.schedule_desk.specs.declared.answer.Answer.TheVariants.{Records, Image, Stands, Value, Done, Ticket, Decided, Settled, Refused}
+use Rattle.schedule_desk.specs.declared.answer.Answer.TheVariants.{Records, Image, Stands, Value, Done, Ticket, Decided, Settled}
 
 abbrev pub verdict_text : {S : Type 0} → Notes S → Verdict S → List ℕ
 verdict_text n (Accepted s) = codes "accepted " ++ n.text s
@@ -32,23 +33,15 @@ answer_text s r Done = codes "done"
 answer_text s r (Ticket k) = codes "ticket " ++ decimal k
 answer_text s r (Decided o) = outcome_text s o
 answer_text s r (Settled v) = verdict_text s v
-answer_text s r (Refused e) = codes "refused " ++ decimal (refusal_number e)
 
--- whether an answer is a refusal
-abbrev pub refuses : {S R : Type 0} → Answer S R → Bool
-refuses (Records n) = false
-refuses (Image k) = false
-refuses (Stands x) = false
-refuses (Value v) = false
-refuses Done = false
-refuses (Ticket k) = false
-refuses (Decided o) = false
-refuses (Settled v) = false
-refuses (Refused e) = true
+-- what is said of a call: its answer, or the number of its refusal
+abbrev pub said_text : {S R : Type 0} → Notes S → Notes R → Result (Answer S R) Refusal → List ℕ
+said_text s r (Ok a) = answer_text s r a
+said_text s r (Err e) = codes "refused " ++ decimal (refusal_number e)
 
--- the line of a call: its words, ': ', and the answer
-abbrev pub answer_line : {S R : Type 0} → Notes S → Notes R → List ℕ → Answer S R → List ℕ
-answer_line s r words answer = words ++ (codes ": " ++ (answer_text s r answer ++ 10 ∷ []))
+-- the line of a call: its words, ': ', and what is said of it
+abbrev pub answer_line : {S R : Type 0} → Notes S → Notes R → List ℕ → Result (Answer S R) Refusal → List ℕ
+answer_line s r words said = words ++ (codes ": " ++ (said_text s r said ++ 10 ∷ []))
 
 -- a count after one more, which ends at the largest number
 abbrev pub one_more : ℕ → ℕ

@@ -1,6 +1,6 @@
 // What a call answers, as it is printed behind the colon.
-ghost use Rattle.std.specs.Prelude.{◌≡◌, Bool, true, false, Some};
-ghost use Rattle.schedule_desk.specs.Answers.{verdict_text, outcome_text, standing_word, answer_text, refuses};
+ghost use Rattle.std.specs.Prelude.{Some};
+ghost use Rattle.schedule_desk.specs.Answers.{verdict_text, outcome_text, standing_word, answer_text, said_text};
 
 use model::refusal::Refusal;
 use model::verdict::{Outcome, Verdict};
@@ -8,7 +8,7 @@ use notation::text::{Notation, Shown};
 use station::job::Standing;
 use std::fmt;
 
-// The answer of a call, or its refusal.
+// The answer of a call that was not refused.
 #[derive(Clone, Copy)]
 pub enum Answer<S, R> {
     Records(usize),
@@ -19,7 +19,6 @@ pub enum Answer<S, R> {
     Ticket(u32),
     Decided(Outcome<S>),
     Settled(Verdict<S>),
-    Refused(Refusal),
 }
 
 // A verdict in words.
@@ -57,12 +56,17 @@ impl<S: Notation> fmt::Display for ShownOutcome<S> {
 }
 
 // A standing in words.
-pub fn standing_text(standing: Standing) -> &'static str
-    ensures { result.now ≡ standing_word standing }
-{
-    match standing {
-        Standing::Live => "live",
-        Standing::Shut => "shut",
+#[derive(Clone, Copy)]
+pub struct ShownStanding(pub Standing);
+
+impl fmt::Display for ShownStanding {
+    ghost output = { λ x. Some (standing_word x.0) };
+
+    fn fmt<W: fmt::Write>(&self, f: &mut fmt::Formatter<W>) -> fmt::Result {
+        match self.0 {
+            Standing::Live => write!(f, "live"),
+            Standing::Shut => write!(f, "shut"),
+        }
     }
 }
 
@@ -73,7 +77,10 @@ impl<S: Notation, R: Notation> fmt::Display for Answer<S, R> {
         match self {
             Answer::Records(records) => write!(f, "{records} records"),
             Answer::Image(number) => write!(f, "image {number}"),
-            Answer::Stands(standing) => f.write_str(standing_text(*standing)),
+            Answer::Stands(standing) => {
+                let standing = ShownStanding(*standing);
+                write!(f, "{standing}")
+            }
             Answer::Value(value) => value.show(f),
             Answer::Done => write!(f, "done"),
             Answer::Ticket(number) => write!(f, "ticket {number}"),
@@ -85,19 +92,24 @@ impl<S: Notation, R: Notation> fmt::Display for Answer<S, R> {
                 let verdict = ShownVerdict(*verdict);
                 write!(f, "{verdict}")
             }
-            Answer::Refused(refusal) => {
-                let number = refusal.number();
-                write!(f, "refused {number}")
-            }
         }
     }
 }
 
-impl<S, R> Answer<S, R> {
-    // Whether the call was refused.
-    pub fn is_refusal(&self) -> bool
-        ensures { result ≡ refuses self.now }
-    {
-        matches!(self, Answer::Refused(_))
+// What is said of a call: its answer, or the number of its refusal.
+#[derive(Clone, Copy)]
+pub struct Said<S, R>(pub Result<Answer<S, R>, Refusal>);
+
+impl<S: Notation, R: Notation> fmt::Display for Said<S, R> {
+    ghost output = { λ x. Some (said_text S.Notation.notes R.Notation.notes x.0) };
+
+    fn fmt<W: fmt::Write>(&self, f: &mut fmt::Formatter<W>) -> fmt::Result {
+        match self.0 {
+            Ok(answer) => write!(f, "{answer}"),
+            Err(refusal) => {
+                let number = refusal.number();
+                write!(f, "refused {number}")
+            }
+        }
     }
 }

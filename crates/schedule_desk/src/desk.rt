@@ -3,14 +3,13 @@ ghost use Rattle.std.specs.Prelude.{◌≡◌};
 ghost use Rattle.law.specs.HandOver.{AccountedFor};
 ghost use Rattle.office.specs.Store.{registry_kept};
 
+use crate::failure::Failure;
 use crate::holdings::Holdings;
 use kinds::stamp::Stamp;
 use model::entry::Entry;
-use model::refusal::Refusal;
 use office::images::Published;
 use office::store::{Store, blank};
 use registrar::registrar::Registrar;
-use schedule_calls::reason::Fault;
 use std::alloc::Global;
 
 pub struct Desk<S: Copy, R: Copy> {
@@ -22,50 +21,29 @@ pub struct Desk<S: Copy, R: Copy> {
     pub holdings: Holdings<S, R>,
 }
 
-// The registrar of these opening values, or its refusal; with tables for so many jobs in the journal.
-fn found<S: Stamp, R: Copy>(
-    heap: Global,
-    values: &[R],
-    journal: usize,
-) -> Result<Result<(Registrar, Store<S, R>, R), Refusal>, Fault> {
-    let Some(first) = values.first() else {
-        let mut store: Store<S, R> = Store::empty(heap);
-        return match Registrar::found(values, store.lend()) {
-            Ok(_) => Err(Fault::Memory),
-            Err(refusal) => Ok(Err(refusal))
-        };
-    };
-    let first = *first;
-    let mut store = Store::new(heap, first, values.len(), journal)?;
-    match Registrar::found(values, store.lend()) {
-        Ok(registrar) => Ok(Ok((registrar, store, first))),
-        Err(refusal) => Ok(Err(refusal)),
-    }
-}
-
 impl<S: Stamp, R: Copy> Desk<S, R> {
-    // A desk with a new register, or the refusal of its founding.
-    pub fn new(
-        heap: Global,
-        values: &[R],
-        journal: usize,
-    ) -> Result<Result<Desk<S, R>, Refusal>, Fault> {
-        match found(heap, values, journal)? {
-            Err(refusal) => Ok(Err(refusal)),
-            Ok((registrar, store, first)) => {
-                let mut images = Vec::new(heap);
-                images.push(Published::opening(heap, values)?)?;
-                let holdings = Holdings::new(heap)?;
-                Ok(Ok(Desk {
-                    heap,
-                    registrar,
-                    store,
-                    images,
-                    blank: blank(first),
-                    holdings,
-                }))
-            }
-        }
+    // A desk with a new register of these opening values, with tables for so many jobs in the journal.
+    pub fn new(heap: Global, values: &[R], journal: usize) -> Result<Desk<S, R>, Failure> {
+        let Some(first) = values.first() else {
+            let mut store: Store<S, R> = Store::empty(heap);
+            return match Registrar::found(values, store.lend()) {
+                Ok(_) => unreachable!(),
+                Err(refusal) => Err(refusal.into()),
+            };
+        };
+        let first = *first;
+        let mut store = Store::new(heap, first, values.len(), journal)?;
+        let registrar = Registrar::found(values, store.lend())?;
+        let mut images = Vec::new(heap);
+        images.push(Published::opening(heap, values)?)?;
+        Ok(Desk {
+            heap,
+            registrar,
+            store,
+            images,
+            blank: blank(first),
+            holdings: Holdings::new(heap),
+        })
     }
 
     // Ends the run: every ticket is waived, and the tables are handed over. Answers the number of jobs in

@@ -1,11 +1,10 @@
 // What names stand for: jobs with their sheets, and tickets.
-use crate::names::Names;
 use model::entry::Entry;
 use registrar::ticket::Ticket;
-use schedule_calls::reason::Fault;
+use schedule_calls::reason::{Fault, Reason};
 use station::job::Job;
-use std::alloc::{AllocError, Global};
-use std::mem;
+use std::alloc::{AllocError, AllocFailed, Global};
+use std::collections::BTreeMap;
 
 // A job with its sheet.
 #[derive(Drop)]
@@ -14,81 +13,96 @@ pub struct Station<S: Copy, R: Copy> {
     pub sheet: Vec<Entry<S, R>>,
 }
 
-// What a name stands for.
-pub enum Holding<S: Copy, R: Copy> {
-    Free,
-    AtWork(Station<S, R>),
-    Submitted(Ticket),
-}
-
-impl<S: Copy, R: Copy> Holding<S, R> {
-    // Lets a job go, and waives a ticket.
-    pub fn close(self) {
-        match self {
-            Holding::Free => {}
-            Holding::AtWork(_) => {}
-            Holding::Submitted(ticket) => ticket.waive(),
-        }
-    }
-}
-
-// Every name so far has a place of its own, which is free where the name does not stand.
+// The jobs and the tickets by name. A name stands for one of them at most.
 pub struct Holdings<S: Copy, R: Copy> {
-    names: Names,
-    kept: Vec<Holding<S, R>>,
+    heap: Global,
+    jobs: BTreeMap<String, Station<S, R>>,
+    tickets: BTreeMap<String, Ticket>,
 }
 
 impl<S: Copy, R: Copy> Holdings<S, R> {
     // No name stands.
-    pub fn new(heap: Global) -> Result<Holdings<S, R>, AllocError> {
-        Ok(Holdings {
-            names: Names::new(heap)?,
-            kept: Vec::new(heap),
-        })
-    }
-
-    // What a name stands for; its place is free then.
-    pub fn take(&mut self, name: &str) -> Holding<S, R> {
-        match self.names.place(name) {
-            None => Holding::Free,
-            Some(place) => match self.kept.get_mut(place) {
-                None => Holding::Free,
-                Some(kept) => mem::replace(kept, Holding::Free),
-            },
+    pub fn new(heap: Global) -> Holdings<S, R> {
+        Holdings {
+            heap,
+            jobs: BTreeMap::new(heap),
+            tickets: BTreeMap::new(heap),
         }
     }
 
-    // A holding in a place that is free.
-    fn keep(&mut self, place: usize, holding: Holding<S, R>) {
-        match self.kept.get_mut(place) {
-            None => holding.close(),
-            Some(kept) => mem::replace(kept, holding).close(),
+    // The name, unless it stands.
+    pub fn free(&self, name: &str) -> Result<String, Fault> {
+        let stands = self.jobs.contains_key(name) || self.tickets.contains_key(name);
+        let name = String::from_str(self.heap, name)?;
+        if stands {
+            return Err(Reason::Standing(name).into());
+        }
+        Ok(name)
+    }
+
+    // The job of this name.
+    pub fn job(&self, name: &str) -> Result<&Station<S, R>, Fault> {
+        match self.jobs.get(name) {
+            Some(station) => Ok(station),
+            None => Err(Reason::NoJob(String::from_str(self.heap, name)?).into()),
         }
     }
 
-    // The name stands for this.
-    pub fn put(&mut self, heap: Global, name: &str, holding: Holding<S, R>) -> Result<(), Fault> {
-        if let Some(place) = self.names.place(name) {
-            self.keep(place, holding);
-            return Ok(());
+    // The job of this name, for a call that goes on with it.
+    pub fn job_mut(&mut self, name: &str) -> Result<&mut Station<S, R>, Fault> {
+        match self.jobs.get_mut(name) {
+            Some(station) => Ok(station),
+            None => Err(Reason::NoJob(String::from_str(self.heap, name)?).into()),
         }
-        let place = self.kept.len();
-        match self.kept.push(holding) {
-            Ok(()) => self.names.enter(heap, name, place),
-            Err(refused) => {
-                refused.value.close();
-                Err(Fault::Memory)
+    }
+
+    // Takes the job of this name, with the name, which is free then.
+    pub fn take_job(&mut self, name: &str) -> Result<(String, Station<S, R>), Fault> {
+        match self.jobs.remove_entry(name) {
+            Some(taken) => Ok(taken),
+            None => Err(Reason::NoJob(String::from_str(self.heap, name)?).into()),
+        }
+    }
+
+    // Takes the ticket of this name, with the name, which is free then.
+    pub fn take_ticket(&mut self, name: &str) -> Result<(String, Ticket), Fault> {
+        match self.tickets.remove_entry(name) {
+            Some(taken) => Ok(taken),
+            None => Err(Reason::NoTicket(String::from_str(self.heap, name)?).into()),
+        }
+    }
+
+    // The name stands for this job.
+    pub fn keep_job(&mut self, name: String, station: Station<S, R>) -> Result<(), AllocError> {
+        self.jobs.insert(name, station)?;
+        Ok(())
+    }
+
+    // The name stands for this ticket. A ticket that finds no place is waived.
+    pub fn keep_ticket(&mut self, name: String, ticket: Ticket) -> Result<(), AllocError> {
+        match self.tickets.insert(name, ticket) {
+            Ok(None) => Ok(()),
+            Ok(Some(earlier)) => {
+                earlier.waive();
+                Ok(())
+            }
+            Err(AllocFailed { value: (_, ticket) }) => {
+                ticket.waive();
+                Err(AllocError)
             }
         }
     }
 
     // Lets every job go, and waives every ticket.
     pub fn close(self) {
-        let Holdings { names: _, kept } = self;
-        let mut left = kept;
-        while let Some(holding) = left.pop() {
-            holding.close();
+        let Holdings {
+            heap: _,
+            jobs: _,
+            mut tickets,
+        } = self;
+        while let Some((_, ticket)) = tickets.pop_first() {
+            ticket.waive();
         }
-        left.destroy_empty();
+        tickets.destroy_empty();
     }
 }

@@ -6,9 +6,9 @@
 pub mod act;
 pub mod answer;
 pub mod desk;
+pub mod failure;
 pub mod holdings;
 pub mod log;
-pub mod names;
 pub mod run;
 pub mod session;
 pub mod show;

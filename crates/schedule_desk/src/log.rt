@@ -1,9 +1,10 @@
 // The printout, and what it counts.
-ghost use Rattle.std.specs.Prelude.{◌≡◌, ◌++◌, if◌then◌else◌, string_bytes, codes, OnOk};
+ghost use Rattle.std.specs.Prelude.{◌≡◌, ◌++◌, if◌then◌else◌, is_err, string_bytes, codes, OnOk};
 ghost use Rattle.schedule_calls.specs.Calls.{call_text};
-ghost use Rattle.schedule_desk.specs.Answers.{answer_line, last_line, one_more, refuses};
+ghost use Rattle.schedule_desk.specs.Answers.{answer_line, last_line, one_more};
 
-use crate::answer::Answer;
+use crate::answer::{Answer, Said};
+use model::refusal::Refusal;
 use notation::text::Notation;
 use schedule_calls::command::Call;
 use schedule_calls::reason::{Fault, Reason};
@@ -29,25 +30,29 @@ impl Log {
     }
 
     // Counts a call.
-    fn count<S, R>(&mut self, answer: &Answer<S, R>)
+    fn count<T>(&mut self, said: &Result<T, Refusal>)
         ensures same { self.new.text ≡ self.old.text }
         ensures calls { self.new.calls ≡ one_more self.old.calls }
-        ensures refused { self.new.refused ≡ (if refuses answer.now then one_more self.old.refused else self.old.refused) }
+        ensures refused { self.new.refused ≡ (if is_err said.now then one_more self.old.refused else self.old.refused) }
     {
         self.calls = self.calls.saturating_add(1);
-        if answer.is_refusal() {
+        if said.is_err() {
             self.refused = self.refused.saturating_add(1);
         }
     }
 
     // The founding and its answer.
-    pub fn founded<S: Notation, R: Notation>(&mut self, answer: Answer<S, R>) -> Result<(), Fault>
-        ensures text { OnOk result (string_bytes self.new.text ≡ string_bytes self.old.text ++ answer_line S.Notation.notes R.Notation.notes (codes "found") answer) }
+    pub fn founded<S: Notation, R: Notation>(
+        &mut self,
+        said: Result<Answer<S, R>, Refusal>,
+    ) -> Result<(), Fault>
+        ensures text { OnOk result (string_bytes self.new.text ≡ string_bytes self.old.text ++ answer_line S.Notation.notes R.Notation.notes (codes "found") said) }
         ensures calls { OnOk result (self.new.calls ≡ one_more self.old.calls) }
-        ensures refused { OnOk result (self.new.refused ≡ (if refuses answer then one_more self.old.refused else self.old.refused)) }
+        ensures refused { OnOk result (self.new.refused ≡ (if is_err said then one_more self.old.refused else self.old.refused)) }
     {
-        self.count(&answer);
-        writeln!(self.text, "found: {answer}")?;
+        self.count(&said);
+        let said = Said(said);
+        writeln!(self.text, "found: {said}")?;
         Ok(())
     }
 
@@ -55,14 +60,15 @@ impl Log {
     pub fn answered<S: Notation, R: Notation>(
         &mut self,
         call: &Call<R>,
-        answer: Answer<S, R>,
+        said: Result<Answer<S, R>, Refusal>,
     ) -> Result<(), Fault>
-        ensures text { OnOk result (string_bytes self.new.text ≡ string_bytes self.old.text ++ answer_line S.Notation.notes R.Notation.notes (call_text call.now) answer) }
+        ensures text { OnOk result (string_bytes self.new.text ≡ string_bytes self.old.text ++ answer_line S.Notation.notes R.Notation.notes (call_text call.now) said) }
         ensures calls { OnOk result (self.new.calls ≡ one_more self.old.calls) }
-        ensures refused { OnOk result (self.new.refused ≡ (if refuses answer then one_more self.old.refused else self.old.refused)) }
+        ensures refused { OnOk result (self.new.refused ≡ (if is_err said then one_more self.old.refused else self.old.refused)) }
     {
-        self.count(&answer);
-        writeln!(self.text, "{call}: {answer}")?;
+        self.count(&said);
+        let said = Said(said);
+        writeln!(self.text, "{call}: {said}")?;
         Ok(())
     }
 

@@ -2,8 +2,8 @@
 use crate::log::Log;
 use crate::session::Session;
 use schedule_calls::reason::Fault;
-use schedule_text::line::{first_line, is_passed_over};
-use schedule_text::run::{Ending, Printout};
+use schedule_text::line::is_passed_over;
+use schedule_text::run::{Printout, Stopped};
 use schedule_text::words::words;
 use std::alloc::{AllocError, Global};
 
@@ -46,7 +46,7 @@ read KIND DIGITS
 values: whole 65536, page 3/17, card 4:mm:250, item withdrawn, solid:77 or sub:12:4
 ";
 
-// Where a run ended early, and why.
+// Where a run ends early, and why.
 #[derive(Drop)]
 struct Stop {
     line: usize,
@@ -54,46 +54,53 @@ struct Stop {
 }
 
 // Carries out one line.
-fn run_line(heap: Global, session: &mut Session, log: &mut Log, line: &[u8]) -> Result<(), Fault> {
+fn run_line(heap: Global, session: &mut Session, line: &[u8]) -> Result<(), Fault> {
     let words = words(heap, line)?;
     if is_passed_over(words.as_slice()) {
         return Ok(());
     }
-    session.carry_out(heap, log, words.as_slice())
+    session.carry_out(words.as_slice())
 }
 
 // Carries out the lines of an input, up to the first that is no call.
-fn run_lines(heap: Global, session: &mut Session, log: &mut Log, input: &[u8]) -> Result<(), Stop> {
-    let mut rest = input;
-    let mut line: usize = 0;
-    while !rest.is_empty() {
-        let (this, after) = first_line(rest);
-        rest = after;
-        line = line.saturating_add(1);
-        match run_line(heap, session, log, this) {
-            Ok(()) => {}
-            Err(fault) => return Err(Stop { line, fault }),
-        }
+fn run_lines(heap: Global, session: &mut Session, input: &[u8]) -> Result<(), Stop> {
+    for (before, line) in input.split(|c| *c == b'\n').enumerate() {
+        run_line(heap, session, line).map_err(|fault| Stop {
+            line: before.saturating_add(1),
+            fault,
+        })?;
     }
     Ok(())
 }
 
-// The last line of a run, and how it ended.
-fn finish(log: &mut Log, ended: Result<(), Stop>, jobs: Option<usize>) -> Result<Ending, Fault> {
+// The last line of a run that came to its end, or of one that stopped.
+fn finish(
+    log: &mut Log,
+    ended: Result<(), Stop>,
+    jobs: Option<usize>,
+) -> Result<Result<(), Stopped>, Fault> {
     match ended {
         Ok(()) => {
             if let Some(jobs) = jobs {
                 log.ended(jobs)?;
             }
-            Ok(Ending::Done)
+            Ok(Ok(()))
         }
-        Err(Stop { line, fault }) => match fault {
-            Fault::NoCall(reason) => {
-                log.no_call(line, &reason)?;
-                Ok(Ending::Error { line })
-            }
-            Fault::Memory => Err(Fault::Memory),
-        },
+        Err(
+            Stop {
+                line,
+                fault: Fault::NoCall(reason),
+            },
+        ) => {
+            log.no_call(line, &reason)?;
+            Ok(Err(Stopped { line }))
+        }
+        Err(
+            Stop {
+                line: _,
+                fault: Fault::Memory,
+            },
+        ) => Err(Fault::Memory),
     }
 }
 
@@ -102,18 +109,15 @@ pub fn run(heap: Global, input: &[u8]) -> Result<Printout, AllocError> {
     if input.is_empty() {
         return Ok(Printout {
             text: String::from_str(heap, HELP)?,
-            ending: Ending::Done,
+            ending: Ok(()),
         });
     }
-    let mut log = Log::new(heap);
-    let mut session = Session::Before;
-    let ended = run_lines(heap, &mut session, &mut log, input);
-    let jobs = session.close();
-    match finish(&mut log, ended, jobs) {
-        Ok(ending) => Ok(Printout {
-            text: log.text,
-            ending,
-        }),
-        Err(_) => Err(AllocError),
-    }
+    let mut session = Session::new(heap);
+    let ended = run_lines(heap, &mut session, input);
+    let (mut log, jobs) = session.close();
+    let ending = finish(&mut log, ended, jobs).map_err(|_| AllocError)?;
+    Ok(Printout {
+        text: log.text,
+        ending,
+    })
 }

@@ -1,14 +1,15 @@
-// A session: the desk of a schedule, by stamp kind and record kind.
+// A session: the printout so far, and the register of the schedule, by stamp kind and record kind.
 use crate::answer::Answer;
 use crate::desk::Desk;
+use crate::failure::Failure;
 use crate::log::Log;
 use kinds::card::Card;
 use kinds::item::Item;
 use kinds::stamp::Stamp;
 use kinds::volume::VolumePage;
 use kinds::whole::Whole;
+use model::refusal::Refusal;
 use notation::text::Notation;
-use notation::words::is_word;
 use schedule_calls::command::Command;
 use schedule_calls::numbers::capped;
 use schedule_calls::parse::{parse, parse_value};
@@ -22,196 +23,206 @@ use std::mem;
 // The largest number of places that is handed on.
 const MOST_PLACES: u64 = 4097;
 
-pub enum Session {
+// A register with stamps of one kind, by its record kind.
+enum Register<S: Copy> {
+    Cards(Desk<S, Card>),
+    Items(Desk<S, Item>),
+}
+
+// Where a session is: before its founding, after one that was refused, or at a register by its stamp kind.
+enum State {
     Before,
     Refused,
-    WholeCards(Desk<Whole, Card>),
-    WholeItems(Desk<Whole, Item>),
-    PageCards(Desk<VolumePage, Card>),
-    PageItems(Desk<VolumePage, Item>),
+    Whole(Register<Whole>),
+    Page(Register<VolumePage>),
 }
 
-// The opening values.
-fn parse_values<R: Notation>(heap: Global, words: &[&[u8]]) -> Result<Vec<R>, Fault> {
-    let mut values = Vec::new(heap);
-    for word in words {
-        values.push(parse_value(*word)?)?;
-    }
-    Ok(values)
-}
-
-// A new desk and the line of its founding; none where it was refused.
-fn found<S: Stamp + Notation, R: Notation>(
+pub struct Session {
     heap: Global,
-    log: &mut Log,
-    words: &[&[u8]],
-    journal: usize,
-) -> Result<Option<Desk<S, R>>, Fault> {
-    let values: Vec<R> = parse_values(heap, words)?;
-    match Desk::new(heap, values.as_slice(), journal)? {
-        Err(refusal) => {
-            let answer: Answer<S, R> = Answer::Refused(refusal);
-            log.founded(answer)?;
-            Ok(None)
+    log: Log,
+    state: State,
+}
+
+impl<S: Stamp + Notation, R: Notation> Desk<S, R> {
+    // One line to a desk.
+    fn obey(&mut self, log: &mut Log, words: &[&[u8]]) -> Result<(), Fault> {
+        let command = parse(self.heap, words)?;
+        match &command {
+            Command::Make(call) => {
+                let said = match self.make(call) {
+                    Ok(answer) => Ok(answer),
+                    Err(failure) => Err(failure.refusal()?),
+                };
+                log.answered(call, said)
+            }
+            Command::LetGo { name } => {
+                self.let_go(name.as_str())?;
+                writeln!(log.text, "drop {name}: done")?;
+                Ok(())
+            }
+            Command::Show(view) => self.show(log, view),
         }
-        Ok(desk) => {
-            let answer: Answer<S, R> = Answer::Records(values.len());
-            match log.founded(answer) {
-                Ok(()) => Ok(Some(desk)),
-                Err(fault) => {
-                    let _ = desk.close();
-                    Err(fault)
+    }
+}
+
+impl<S: Stamp + Notation> Register<S> {
+    // One line to a register.
+    fn obey(&mut self, log: &mut Log, words: &[&[u8]]) -> Result<(), Fault> {
+        match self {
+            Register::Cards(desk) => desk.obey(log, words),
+            Register::Items(desk) => desk.obey(log, words),
+        }
+    }
+
+    // Ends the run of a register. Answers the number of jobs in its journal.
+    fn close(self) -> usize {
+        match self {
+            Register::Cards(desk) => desk.close(),
+            Register::Items(desk) => desk.close(),
+        }
+    }
+}
+
+impl State {
+    // Ends the run. Answers the number of jobs in the journal, and none where no register was asked for.
+    fn close(self) -> Option<usize> {
+        match self {
+            State::Before => None,
+            State::Refused => Some(0),
+            State::Whole(register) => Some(register.close()),
+            State::Page(register) => Some(register.close()),
+        }
+    }
+}
+
+// Founding.
+impl Session {
+    // The opening values.
+    fn values<R: Notation>(&self, words: &[&[u8]]) -> Result<Vec<R>, Fault> {
+        let mut values = Vec::new(self.heap);
+        for word in words {
+            values.push(parse_value(*word)?)?;
+        }
+        Ok(values)
+    }
+
+    // A desk with these opening values, and the line of its founding.
+    fn desk<S: Stamp + Notation, R: Notation>(
+        &mut self,
+        journal: usize,
+        values: &[&[u8]],
+    ) -> Result<Desk<S, R>, Failure> {
+        let values: Vec<R> = self.values(values)?;
+        match Desk::new(self.heap, values.as_slice(), journal) {
+            Ok(desk) => {
+                let answer: Answer<S, R> = Answer::Records(values.len());
+                match self.log.founded(Ok(answer)) {
+                    Ok(()) => Ok(desk),
+                    Err(fault) => {
+                        let _ = desk.close();
+                        Err(fault.into())
+                    }
                 }
+            }
+            Err(failure) => {
+                let refusal = failure.refusal()?;
+                let said: Result<Answer<S, R>, Refusal> = Err(refusal);
+                self.log.founded(said)?;
+                Err(refusal.into())
             }
         }
     }
-}
 
-// One line to a desk.
-fn obey<S: Stamp + Notation, R: Notation>(
-    desk: &mut Desk<S, R>,
-    log: &mut Log,
-    words: &[&[u8]],
-) -> Result<(), Fault> {
-    let command = parse(desk.heap, words)?;
-    match &command {
-        Command::Make(call) => {
-            let answer = desk.make(call)?;
-            log.answered(call, answer)
+    // A register by its record kind.
+    fn register<S: Stamp + Notation>(
+        &mut self,
+        records: &[u8],
+        journal: usize,
+        values: &[&[u8]],
+    ) -> Result<Register<S>, Failure> {
+        match records {
+            b"card" => Ok(Register::Cards(self.desk(journal, values)?)),
+            b"item" => Ok(Register::Items(self.desk(journal, values)?)),
+            _ => Err(Reason::RecordKind.into()),
         }
-        Command::LetGo { name } => {
-            desk.let_go(name.as_str())?;
-            writeln!(log.text, "drop {name}: done")?;
-            Ok(())
-        }
-        Command::Show(view) => desk.show(log, view),
     }
-}
 
-// A desk over whole stamps, by its record kind.
-fn found_whole(
-    heap: Global,
-    log: &mut Log,
-    records: &[u8],
-    values: &[&[u8]],
-    journal: usize,
-) -> Result<Session, Fault> {
-    if is_word(records, "card") {
-        match found(heap, log, values, journal)? {
-            Some(desk) => Ok(Session::WholeCards(desk)),
-            None => Ok(Session::Refused),
+    // `found STAMPKIND RECORDKIND PLACES VALUE ...`, after its first word.
+    fn founded(&mut self, words: &[&[u8]]) -> Result<State, Failure> {
+        let [stamps, records, places, values @ ..] = words else {
+            return Err(Reason::Words(Form::Found).into());
+        };
+        let journal = capped(places, MOST_PLACES)? as usize;
+        match *stamps {
+            b"whole" => Ok(State::Whole(self.register(records, journal, values)?)),
+            b"page" => Ok(State::Page(self.register(records, journal, values)?)),
+            _ => Err(Reason::StampKind.into()),
         }
-    } else if is_word(records, "item") {
-        match found(heap, log, values, journal)? {
-            Some(desk) => Ok(Session::WholeItems(desk)),
-            None => Ok(Session::Refused),
+    }
+
+    // Founds the register, which is done once.
+    fn found(&mut self, words: &[&[u8]]) -> Result<(), Fault> {
+        if !matches!(self.state, State::Before) {
+            return Err(Reason::FoundTwice.into());
         }
-    } else {
-        Err(Fault::NoCall(Reason::RecordKind))
+        let state = match self.founded(words) {
+            Ok(state) => state,
+            Err(failure) => {
+                let _ = failure.refusal()?;
+                State::Refused
+            }
+        };
+        let _ = mem::replace(&mut self.state, state).close();
+        Ok(())
     }
-}
-
-// A desk over stamps of volume and page, by its record kind.
-fn found_page(
-    heap: Global,
-    log: &mut Log,
-    records: &[u8],
-    values: &[&[u8]],
-    journal: usize,
-) -> Result<Session, Fault> {
-    if is_word(records, "card") {
-        match found(heap, log, values, journal)? {
-            Some(desk) => Ok(Session::PageCards(desk)),
-            None => Ok(Session::Refused),
-        }
-    } else if is_word(records, "item") {
-        match found(heap, log, values, journal)? {
-            Some(desk) => Ok(Session::PageItems(desk)),
-            None => Ok(Session::Refused),
-        }
-    } else {
-        Err(Fault::NoCall(Reason::RecordKind))
-    }
-}
-
-// `found STAMPKIND RECORDKIND PLACES VALUE ...`, after its first word.
-fn found_by_kind(heap: Global, log: &mut Log, words: &[&[u8]]) -> Result<Session, Fault> {
-    if words.len() < 3 {
-        return Err(Fault::NoCall(Reason::Words(Form::Found)));
-    }
-    let stamps = words[0];
-    let records = words[1];
-    let journal = capped(words[2], MOST_PLACES)? as usize;
-    let values = &words[3..];
-    if is_word(stamps, "whole") {
-        found_whole(heap, log, records, values, journal)
-    } else if is_word(stamps, "page") {
-        found_page(heap, log, records, values, journal)
-    } else {
-        Err(Fault::NoCall(Reason::StampKind))
-    }
-}
-
-// Whether a command is on kinds, and needs no register.
-fn is_on_kinds(word: &[u8]) -> bool {
-    is_word(word, "pick") || is_word(word, "form") || is_word(word, "read")
-}
-
-// A command on kinds.
-fn answer_on_kinds(heap: Global, log: &mut Log, words: &[&[u8]]) -> Result<(), Fault> {
-    let command = parse_on_kinds(words)?;
-    let said = answer(heap, command)?;
-    log.text.push_str(said.as_str())?;
-    Ok(())
 }
 
 impl Session {
-    // Founds the register, which is done once.
-    fn found(&mut self, heap: Global, log: &mut Log, words: &[&[u8]]) -> Result<(), Fault> {
-        match self {
-            Session::Before => {}
-            _ => return Err(Fault::NoCall(Reason::FoundTwice)),
+    // A session before its founding.
+    pub fn new(heap: Global) -> Session {
+        Session {
+            heap,
+            log: Log::new(heap),
+            state: State::Before,
         }
-        let founded = found_by_kind(heap, log, words)?;
-        let _ = mem::replace(self, founded).close();
+    }
+
+    // A command on kinds, which needs no register.
+    fn answer_on_kinds(&mut self, words: &[&[u8]]) -> Result<(), Fault> {
+        let command = parse_on_kinds(words)?;
+        let said = answer(self.heap, command)?;
+        self.log.text.push_str(said.as_str())?;
         Ok(())
     }
 
     // A command on the register.
-    fn obey(&mut self, log: &mut Log, words: &[&[u8]]) -> Result<(), Fault> {
-        match self {
-            Session::Before => Err(Fault::NoCall(Reason::NotFounded)),
-            Session::Refused => Err(Fault::NoCall(Reason::FoundRefused)),
-            Session::WholeCards(desk) => obey(desk, log, words),
-            Session::WholeItems(desk) => obey(desk, log, words),
-            Session::PageCards(desk) => obey(desk, log, words),
-            Session::PageItems(desk) => obey(desk, log, words),
+    fn obey(&mut self, words: &[&[u8]]) -> Result<(), Fault> {
+        match &mut self.state {
+            State::Before => Err(Reason::NotFounded.into()),
+            State::Refused => Err(Reason::FoundRefused.into()),
+            State::Whole(register) => register.obey(&mut self.log, words),
+            State::Page(register) => register.obey(&mut self.log, words),
         }
     }
 
     // Carries out the words of a line that is not passed over.
-    pub fn carry_out(&mut self, heap: Global, log: &mut Log, words: &[&[u8]]) -> Result<(), Fault> {
-        if words.is_empty() {
-            return Ok(());
-        }
-        if is_on_kinds(words[0]) {
-            answer_on_kinds(heap, log, words)
-        } else if is_word(words[0], "found") {
-            self.found(heap, log, &words[1..])
-        } else {
-            self.obey(log, words)
+    pub fn carry_out(&mut self, words: &[&[u8]]) -> Result<(), Fault> {
+        match words {
+            [] => Ok(()),
+            [b"pick" | b"form" | b"read", ..] => self.answer_on_kinds(words),
+            [b"found", rest @ ..] => self.found(rest),
+            _ => self.obey(words),
         }
     }
 
-    // Ends the session. Answers the number of jobs in the journal, and none where no register was asked for.
-    pub fn close(self) -> Option<usize> {
-        match self {
-            Session::Before => None,
-            Session::Refused => Some(0),
-            Session::WholeCards(desk) => Some(desk.close()),
-            Session::WholeItems(desk) => Some(desk.close()),
-            Session::PageCards(desk) => Some(desk.close()),
-            Session::PageItems(desk) => Some(desk.close()),
-        }
+    // Ends the session. Answers the printout, and the number of jobs in the journal, which is none where
+    // no register was asked for.
+    pub fn close(self) -> (Log, Option<usize>) {
+        let Session {
+            heap: _,
+            log,
+            state,
+        } = self;
+        (log, state.close())
     }
 }

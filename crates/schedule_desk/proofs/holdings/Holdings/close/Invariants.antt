@@ -1,6 +1,6 @@
--- Each turn takes one holding out.
-use Rattle.std.proofs.Common.{vec_len}
+-- Each turn takes one ticket out.
+use Rattle.std.proofs.Common.{length}
 use Rattle.schedule_desk.proofs.holdings.Holdings.close.Given as goal
 
-abbrev pub decreases-loop-holding : goal.decreases-loop-holding
-decreases-loop-holding g l = vec_len l.left
+abbrev pub decreases-loop-ticket : goal.decreases-loop-ticket
+decreases-loop-ticket g l = length l.tickets.entries
