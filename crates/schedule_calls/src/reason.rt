@@ -1,4 +1,8 @@
 // Why a line is no call.
+ghost use Rattle.std.specs.Prelude.{◌≡◌};
+ghost use Rattle.schedule_calls.specs.declared.reason.Reason.TheVariants.{OnKinds};
+ghost use Rattle.schedule_calls.specs.declared.reason.Fault.TheVariants.{NoCall, Memory};
+
 use schedule_text::reason::Reason as KindsReason;
 use std::alloc::{AllocError, AllocFailed};
 use std::fmt;
@@ -97,24 +101,32 @@ pub enum Fault {
 }
 
 impl From<Reason> for Fault {
+    ghost from_gives = { λ reason fault. fault ≡ NoCall reason };
+
     fn from(reason: Reason) -> Fault {
         Fault::NoCall(reason)
     }
 }
 
 impl From<KindsReason> for Fault {
+    ghost from_gives = { λ reason fault. fault ≡ NoCall (OnKinds reason) };
+
     fn from(reason: KindsReason) -> Fault {
         Fault::NoCall(Reason::OnKinds(reason))
     }
 }
 
 impl From<AllocError> for Fault {
+    ghost from_gives = { λ _ fault. fault ≡ Memory };
+
     fn from(_e: AllocError) -> Fault {
         Fault::Memory
     }
 }
 
 impl<T: Drop> From<AllocFailed<T>> for Fault {
+    ghost from_gives = { λ _ fault. fault ≡ Memory };
+
     fn from(_e: AllocFailed<T>) -> Fault {
         Fault::Memory
     }
@@ -122,6 +134,8 @@ impl<T: Drop> From<AllocFailed<T>> for Fault {
 
 // A string that cannot be written to has found no memory.
 impl From<fmt::Error> for Fault {
+    ghost from_gives = { λ _ fault. fault ≡ Memory };
+
     fn from(_e: fmt::Error) -> Fault {
         Fault::Memory
     }

@@ -31,7 +31,7 @@ impl<S: Copy, R: Copy> Holdings<S, R> {
     }
 
     // The name, unless it stands.
-    pub fn free(&self, name: &str) -> Result<String, Fault> {
+    pub(crate) fn free(&self, name: &str) -> Result<String, Fault> {
         let stands = self.jobs.contains_key(name) || self.tickets.contains_key(name);
         let name = String::from_str(self.heap, name)?;
         if stands {
@@ -41,7 +41,7 @@ impl<S: Copy, R: Copy> Holdings<S, R> {
     }
 
     // The job of this name.
-    pub fn job(&self, name: &str) -> Result<&Station<S, R>, Fault> {
+    pub(crate) fn job(&self, name: &str) -> Result<&Station<S, R>, Fault> {
         match self.jobs.get(name) {
             Some(station) => Ok(station),
             None => Err(Reason::NoJob(String::from_str(self.heap, name)?).into()),
@@ -49,7 +49,7 @@ impl<S: Copy, R: Copy> Holdings<S, R> {
     }
 
     // The job of this name, for a call that goes on with it.
-    pub fn job_mut(&mut self, name: &str) -> Result<&mut Station<S, R>, Fault> {
+    pub(crate) fn job_mut(&mut self, name: &str) -> Result<&mut Station<S, R>, Fault> {
         match self.jobs.get_mut(name) {
             Some(station) => Ok(station),
             None => Err(Reason::NoJob(String::from_str(self.heap, name)?).into()),
@@ -57,7 +57,7 @@ impl<S: Copy, R: Copy> Holdings<S, R> {
     }
 
     // Takes the job of this name, with the name, which is free then.
-    pub fn take_job(&mut self, name: &str) -> Result<(String, Station<S, R>), Fault> {
+    pub(crate) fn take_job(&mut self, name: &str) -> Result<(String, Station<S, R>), Fault> {
         match self.jobs.remove_entry(name) {
             Some(taken) => Ok(taken),
             None => Err(Reason::NoJob(String::from_str(self.heap, name)?).into()),
@@ -65,7 +65,7 @@ impl<S: Copy, R: Copy> Holdings<S, R> {
     }
 
     // Takes the ticket of this name, with the name, which is free then.
-    pub fn take_ticket(&mut self, name: &str) -> Result<(String, Ticket), Fault> {
+    pub(crate) fn take_ticket(&mut self, name: &str) -> Result<(String, Ticket), Fault> {
         match self.tickets.remove_entry(name) {
             Some(taken) => Ok(taken),
             None => Err(Reason::NoTicket(String::from_str(self.heap, name)?).into()),
@@ -73,13 +73,17 @@ impl<S: Copy, R: Copy> Holdings<S, R> {
     }
 
     // The name stands for this job.
-    pub fn keep_job(&mut self, name: String, station: Station<S, R>) -> Result<(), AllocError> {
+    pub(crate) fn keep_job(
+        &mut self,
+        name: String,
+        station: Station<S, R>,
+    ) -> Result<(), AllocError> {
         self.jobs.insert(name, station)?;
         Ok(())
     }
 
     // The name stands for this ticket. A ticket that finds no place is waived.
-    pub fn keep_ticket(&mut self, name: String, ticket: Ticket) -> Result<(), AllocError> {
+    pub(crate) fn keep_ticket(&mut self, name: String, ticket: Ticket) -> Result<(), AllocError> {
         match self.tickets.insert(name, ticket) {
             Ok(None) => Ok(()),
             Ok(Some(earlier)) => {

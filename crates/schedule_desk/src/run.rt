@@ -2,9 +2,8 @@
 use crate::log::Log;
 use crate::session::Session;
 use schedule_calls::reason::Fault;
-use schedule_text::line::is_passed_over;
+use schedule_text::line::Lines;
 use schedule_text::run::{Printout, Stopped};
-use schedule_text::words::words;
 use std::alloc::{AllocError, Global};
 
 // What an empty input is answered with.
@@ -53,19 +52,10 @@ struct Stop {
     fault: Fault,
 }
 
-// Carries out one line.
-fn run_line(heap: Global, session: &mut Session, line: &[u8]) -> Result<(), Fault> {
-    let words = words(heap, line)?;
-    if is_passed_over(words.as_slice()) {
-        return Ok(());
-    }
-    session.carry_out(words.as_slice())
-}
-
 // Carries out the lines of an input, up to the first that is no call.
-fn run_lines(heap: Global, session: &mut Session, input: &[u8]) -> Result<(), Stop> {
-    for (before, line) in input.split(|c| *c == b'\n').enumerate() {
-        run_line(heap, session, line).map_err(|fault| Stop {
+fn run_lines(session: &mut Session, input: &[u8]) -> Result<(), Stop> {
+    for (before, line) in Lines(input).enumerate() {
+        session.carry_out(line).map_err(|fault| Stop {
             line: before.saturating_add(1),
             fault,
         })?;
@@ -113,7 +103,7 @@ pub fn run(heap: Global, input: &[u8]) -> Result<Printout, AllocError> {
         });
     }
     let mut session = Session::new(heap);
-    let ended = run_lines(heap, &mut session, input);
+    let ended = run_lines(&mut session, input);
     let (mut log, jobs) = session.close();
     let ending = finish(&mut log, ended, jobs).map_err(|_| AllocError)?;
     Ok(Printout {

@@ -15,7 +15,9 @@ use schedule_calls::numbers::capped;
 use schedule_calls::parse::{parse, parse_value};
 use schedule_calls::reason::{Fault, Form, Reason};
 use schedule_text::answer::answer;
+use schedule_text::line::is_passed_over;
 use schedule_text::parse::parse as parse_on_kinds;
+use schedule_text::words::words;
 use std::alloc::Global;
 use std::fmt::Write;
 use std::mem;
@@ -99,11 +101,10 @@ impl State {
 impl Session {
     // The opening values.
     fn values<R: Notation>(&self, words: &[&[u8]]) -> Result<Vec<R>, Fault> {
-        let mut values = Vec::new(self.heap);
-        for word in words {
-            values.push(parse_value(*word)?)?;
-        }
-        Ok(values)
+        words
+            .iter()
+            .map(|word| Ok(parse_value(word)?))
+            .try_collect(self.heap)
     }
 
     // A desk with these opening values, and the line of its founding.
@@ -179,7 +180,7 @@ impl Session {
 
 impl Session {
     // A session before its founding.
-    pub fn new(heap: Global) -> Session {
+    pub(crate) fn new(heap: Global) -> Session {
         Session {
             heap,
             log: Log::new(heap),
@@ -205,10 +206,14 @@ impl Session {
         }
     }
 
-    // Carries out the words of a line that is not passed over.
-    pub fn carry_out(&mut self, words: &[&[u8]]) -> Result<(), Fault> {
+    // Carries out a line, unless it is passed over.
+    pub fn carry_out(&mut self, line: &[u8]) -> Result<(), Fault> {
+        let words = words(self.heap, line)?;
+        let words = words.as_slice();
+        if is_passed_over(words) {
+            return Ok(());
+        }
         match words {
-            [] => Ok(()),
             [b"pick" | b"form" | b"read", ..] => self.answer_on_kinds(words),
             [b"found", rest @ ..] => self.found(rest),
             _ => self.obey(words),
