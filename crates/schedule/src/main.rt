@@ -9,7 +9,7 @@ use std::io::{Read, Write};
 fn main(rt: HostRuntime) -> anyhow::Result<()> {
     let mut input = Vec::new(rt.alloc());
     rt.stdin().read_to_end(&mut input)?;
-    let printout = run(rt.alloc(), input.as_slice())?;
+    let printout = run(rt.alloc(), &input)?;
     rt.stdout().write_all(printout.text.as_bytes())?;
     Ok(printout.ending?)
 }

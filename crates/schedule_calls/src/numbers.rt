@@ -17,7 +17,7 @@ impl fmt::Display for Number {
     ghost output = { λ x. Some (string_bytes x.digits) };
 
     fn fmt<W: fmt::Write>(&self, f: &mut fmt::Formatter<W>) -> fmt::Result {
-        f.write_str(self.digits.as_str())
+        f.write_str(&self.digits)
     }
 }
 

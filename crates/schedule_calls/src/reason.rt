@@ -6,30 +6,47 @@ ghost use Rattle.schedule_calls.specs.declared.reason.Fault.TheVariants.{NoCall,
 use schedule_text::reason::Reason as KindsReason;
 use std::alloc::{AllocError, AllocFailed};
 use std::fmt;
+use thiserror::Error;
 
 // What was expected where the line has something else.
-#[derive(Drop)]
+#[derive(Debug, Drop, Error)]
 pub enum Reason {
+    #[error(transparent)]
     OnKinds(KindsReason),
+    #[error("expected a command; an empty input prints them all")]
     Command,
+    #[error("expected {0}")]
     Words(Form),
+    #[error("expected the stamp kind whole or page")]
     StampKind,
+    #[error("expected the record kind card or item")]
     RecordKind,
+    #[error("expected a number")]
     Number,
+    #[error("expected a name of letters and digits")]
     Name,
+    #[error("expected a value of the register's record kind")]
     Value,
+    #[error("expected found first")]
     NotFounded,
+    #[error("found was refused, so there is no register")]
     FoundRefused,
+    #[error("found stands once")]
     FoundTwice,
+    #[error("no job of this name: {0}")]
     NoJob(String),
+    #[error("no ticket of this name: {0}")]
     NoTicket(String),
+    #[error("a job or ticket of this name stands: {0}")]
     Standing(String),
+    #[error("no image of this number was published")]
     NoImage,
+    #[error("no record of this number")]
     NoRecord,
 }
 
 // The forms that the words of a command have.
-#[derive(Clone, Copy)]
+#[derive(Clone, Copy, Debug)]
 pub enum Form {
     Found,
     Publish,
@@ -67,29 +84,6 @@ impl fmt::Display for Form {
             Form::Journal => "journal",
             Form::Image => "image IMAGE",
         })
-    }
-}
-
-impl fmt::Display for Reason {
-    fn fmt<W: fmt::Write>(&self, f: &mut fmt::Formatter<W>) -> fmt::Result {
-        match self {
-            Reason::OnKinds(reason) => write!(f, "{reason}"),
-            Reason::Command => { write!(f, "expected a command; an empty input prints them all") }
-            Reason::Words(form) => write!(f, "expected {form}"),
-            Reason::StampKind => write!(f, "expected the stamp kind whole or page"),
-            Reason::RecordKind => write!(f, "expected the record kind card or item"),
-            Reason::Number => write!(f, "expected a number"),
-            Reason::Name => write!(f, "expected a name of letters and digits"),
-            Reason::Value => write!(f, "expected a value of the register's record kind"),
-            Reason::NotFounded => write!(f, "expected found first"),
-            Reason::FoundRefused => write!(f, "found was refused, so there is no register"),
-            Reason::FoundTwice => write!(f, "found stands once"),
-            Reason::NoJob(name) => write!(f, "no job of this name: {name}"),
-            Reason::NoTicket(name) => write!(f, "no ticket of this name: {name}"),
-            Reason::Standing(name) => write!(f, "a job or ticket of this name stands: {name}"),
-            Reason::NoImage => write!(f, "no image of this number was published"),
-            Reason::NoRecord => write!(f, "no record of this number"),
-        }
     }
 }
 

@@ -26,12 +26,12 @@ pub fn image_at<S: Stamp, R: Copy>(
 impl<S: Stamp, R: Copy> Desk<S, R> {
     // Publishes the next image.
     fn publish(&mut self) -> Result<Answer<S, R>, Failure> {
-        let mut published = Published::opening(self.heap, self.store.opening.as_slice())?;
+        let mut published = Published::opening(self.heap, &self.store.opening)?;
         let number = self.registrar.publish(
             self.store.lend(),
             &mut published.head,
-            published.rows.as_mut_slice(),
-            published.outcomes.as_mut_slice(),
+            &mut published.rows,
+            &mut published.outcomes,
         )?;
         self.images.push(published)?;
         Ok(Answer::Image(number))
@@ -45,10 +45,7 @@ impl<S: Stamp, R: Copy> Desk<S, R> {
     // Submits a job; its name stands for the ticket then.
     fn submit(&mut self, name: &str) -> Result<Answer<S, R>, Failure> {
         let (name, Station { job, sheet }) = self.holdings.take_job(name)?;
-        match self
-            .registrar
-            .submit(self.store.lend(), job, sheet.as_slice())
-        {
+        match self.registrar.submit(self.store.lend(), job, &sheet) {
             Ok(ticket) => {
                 let number = ticket.number();
                 self.holdings.keep_ticket(name, ticket)?;
@@ -64,7 +61,7 @@ impl<S: Stamp, R: Copy> Desk<S, R> {
     // Settles a ticket, which frees its name.
     fn settle(&mut self, name: &str, image: usize) -> Result<Answer<S, R>, Failure> {
         let (name, ticket) = self.holdings.take_ticket(name)?;
-        let Ok(image) = image_at(self.images.as_slice(), image) else {
+        let Ok(image) = image_at(&self.images, image) else {
             self.holdings.keep_ticket(name, ticket)?;
             return Err(Reason::NoImage.into());
         };
@@ -90,7 +87,7 @@ impl<S: Stamp, R: Copy> Desk<S, R> {
     // Opens a job, unless its name stands.
     fn open(&mut self, name: &str, image: usize) -> Result<Answer<S, R>, Failure> {
         let name = self.holdings.free(name)?;
-        let job = Job::open(image_at(self.images.as_slice(), image)?)?;
+        let job = Job::open(image_at(&self.images, image)?)?;
         let standing = job.standing;
         let sheet = places(self.heap, self.blank, 16)?;
         self.holdings.keep_job(name, Station { job, sheet })?;
@@ -106,10 +103,8 @@ impl<S: Stamp, R: Copy> Desk<S, R> {
     ) -> Result<Answer<S, R>, Failure> {
         let station = self.holdings.job_mut(name)?;
         let at = at.unwrap_or(station.job.image as usize);
-        let image = image_at(self.images.as_slice(), at)?;
-        let value = station
-            .job
-            .look(station.sheet.as_mut_slice(), image, record)?;
+        let image = image_at(&self.images, at)?;
+        let value = station.job.look(&mut station.sheet, image, record)?;
         Ok(Answer::Value(value))
     }
 
@@ -123,18 +118,16 @@ impl<S: Stamp, R: Copy> Desk<S, R> {
     ) -> Result<Answer<S, R>, Failure> {
         let station = self.holdings.job_mut(name)?;
         let at = at.unwrap_or(station.job.image as usize);
-        let image = image_at(self.images.as_slice(), at)?;
-        station
-            .job
-            .put(station.sheet.as_mut_slice(), image, record, value)?;
+        let image = image_at(&self.images, at)?;
+        station.job.put(&mut station.sheet, image, record, value)?;
         Ok(Answer::Done)
     }
 
     // A job tunes to an image.
     fn tune(&mut self, name: &str, image: usize) -> Result<Answer<S, R>, Failure> {
         let station = self.holdings.job_mut(name)?;
-        let image = image_at(self.images.as_slice(), image)?;
-        let standing = station.job.tune(station.sheet.as_mut_slice(), image)?;
+        let image = image_at(&self.images, image)?;
+        let standing = station.job.tune(&mut station.sheet, image)?;
         Ok(Answer::Stands(standing))
     }
 
@@ -150,19 +143,19 @@ impl<S: Stamp, R: Copy> Desk<S, R> {
     pub fn make(&mut self, call: &Call<R>) -> Result<Answer<S, R>, Failure> {
         match call {
             Call::Publish => self.publish(),
-            Call::Open { name, image } => self.open(name.as_str(), *image),
-            Call::Look { name, record, at } => self.look(name.as_str(), record.value, *at),
+            Call::Open { name, image } => self.open(name, *image),
+            Call::Look { name, record, at } => self.look(name, record.value, *at),
             Call::Put {
                 name,
                 record,
                 value,
                 at,
-            } => self.put(name.as_str(), record.value, *value, *at),
-            Call::Tune { name, image } => self.tune(name.as_str(), *image),
-            Call::Submit { name } => self.submit(name.as_str()),
+            } => self.put(name, record.value, *value, *at),
+            Call::Tune { name, image } => self.tune(name, *image),
+            Call::Submit { name } => self.submit(name),
             Call::Decide => self.decide(),
-            Call::Settle { name, image } => self.settle(name.as_str(), *image),
-            Call::Waive { name } => self.waive(name.as_str()),
+            Call::Settle { name, image } => self.settle(name, *image),
+            Call::Waive { name } => self.waive(name),
         }
     }
 }

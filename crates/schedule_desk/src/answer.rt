@@ -107,7 +107,7 @@ impl<S: Notation, R: Notation> fmt::Display for Said<S, R> {
         match self.0 {
             Ok(answer) => write!(f, "{answer}"),
             Err(refusal) => {
-                let number = refusal.number();
+                let number = u8::from(refusal);
                 write!(f, "refused {number}")
             }
         }

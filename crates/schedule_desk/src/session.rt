@@ -58,7 +58,7 @@ impl<S: Stamp + Notation, R: Notation> Desk<S, R> {
                 log.answered(call, said)
             }
             Command::LetGo { name } => {
-                self.let_go(name.as_str())?;
+                self.let_go(name)?;
                 writeln!(log.text, "drop {name}: done")?;
                 Ok(())
             }
@@ -114,7 +114,7 @@ impl Session {
         values: &[&[u8]],
     ) -> Result<Desk<S, R>, Failure> {
         let values: Vec<R> = self.values(values)?;
-        match Desk::new(self.heap, values.as_slice(), journal) {
+        match Desk::new(self.heap, &values, journal) {
             Ok(desk) => {
                 let answer: Answer<S, R> = Answer::Records(values.len());
                 match self.log.founded(Ok(answer)) {
@@ -192,7 +192,7 @@ impl Session {
     fn answer_on_kinds(&mut self, words: &[&[u8]]) -> Result<(), Fault> {
         let command = parse_on_kinds(words)?;
         let said = answer(self.heap, command)?;
-        self.log.text.push_str(said.as_str())?;
+        self.log.text.push_str(&said)?;
         Ok(())
     }
 
@@ -209,14 +209,13 @@ impl Session {
     // Carries out a line, unless it is passed over.
     pub fn carry_out(&mut self, line: &[u8]) -> Result<(), Fault> {
         let words = words(self.heap, line)?;
-        let words = words.as_slice();
-        if is_passed_over(words) {
+        if is_passed_over(&words) {
             return Ok(());
         }
-        match words {
-            [b"pick" | b"form" | b"read", ..] => self.answer_on_kinds(words),
+        match words.as_slice() {
+            [b"pick" | b"form" | b"read", ..] => self.answer_on_kinds(&words),
             [b"found", rest @ ..] => self.found(rest),
-            _ => self.obey(words),
+            _ => self.obey(&words),
         }
     }
 

@@ -234,7 +234,7 @@ impl<S: Stamp + Notation, R: Notation> Desk<S, R> {
     pub fn show(&self, log: &mut Log, view: &View) -> Result<(), Fault> {
         match view {
             View::Row { record } => self.show_record(log, *record),
-            View::Job { name } => self.show_named(log, name.as_str()),
+            View::Job { name } => self.show_named(log, name),
             View::Journal => self.show_journal(log),
             View::Image { number } => self.show_image(log, *number),
         }

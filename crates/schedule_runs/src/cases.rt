@@ -55,7 +55,7 @@ fn gone(rt: HostRuntime) -> Result<(), Fail> {
     let kept = format!(in heap; "{start}submit A\ndecide\n")?;
     ends(
         heap,
-        kept.as_str(),
+        &kept,
         "decide: ticket 4 accepted 32768\nrun: 22 calls, 0 refused, 4 jobs in the journal\n",
     )?;
     let lost = format!(in heap;
@@ -63,7 +63,7 @@ fn gone(rt: HostRuntime) -> Result<(), Fail> {
     )?;
     ends(
         heap,
-        lost.as_str(),
+        &lost,
         "decide: ticket 5 gone\nrun: 27 calls, 0 refused, 4 jobs in the journal\n",
     )
 }

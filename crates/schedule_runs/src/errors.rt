@@ -9,7 +9,7 @@ fn refused(heap: Global, line: &str, reason: &str) -> Result<(), Fail> {
         "# Some run.\nfound whole card 8 1:mm:10\npublish\nopen A 1\nopen B 1\nsubmit B\n\n{line}\npublish\n"
     )?;
     let text = format!(in heap; "submit B: ticket 1\nline 8: {reason}\n")?;
-    stops(heap, input.as_str(), 8, text.as_str())
+    stops(heap, &input, 8, &text)
 }
 
 #[test]

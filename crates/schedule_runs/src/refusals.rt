@@ -26,11 +26,11 @@ fn foundings(rt: HostRuntime) -> Result<(), Fail> {
     }
     ends(
         heap,
-        many.as_str(),
+        &many,
         "found: 1024 records\nrun: 1 calls, 0 refused, 0 jobs in the journal\n",
     )?;
     many.push_str(" withdrawn")?;
-    prints(heap, many.as_str(), refused)
+    prints(heap, &many, refused)
 }
 
 #[test]
@@ -56,7 +56,7 @@ fn full_sheet(rt: HostRuntime) -> Result<(), Fail> {
     input.push_str("put A 15 solid:1\n")?;
     ends(
         heap,
-        input.as_str(),
+        &input,
         "look A 15: withdrawn\nlook A 16: refused 6\nput A 15: done\nrun: 21 calls, 1 refused, 0 jobs in the journal\n",
     )
 }
@@ -70,7 +70,7 @@ fn full_queue(rt: HostRuntime) -> Result<(), Fail> {
     }
     ends(
         heap,
-        input.as_str(),
+        &input,
         "submit A15: ticket 16\nopen A16: live\nsubmit A16: refused 8\nrun: 36 calls, 1 refused, 0 jobs in the journal\n",
     )
 }
@@ -84,7 +84,7 @@ fn full_outcomes(rt: HostRuntime) -> Result<(), Fail> {
     }
     ends(
         heap,
-        input.as_str(),
+        &input,
         "submit A32: ticket 33\ndecide: refused 11\nrun: 101 calls, 1 refused, 32 jobs in the journal\n",
     )
 }
