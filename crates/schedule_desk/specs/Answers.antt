@@ -1,5 +1,5 @@
 -- What the answer of a call prints.
-use Rattle.std.specs.Prelude.{ℕ, ◌+◌, min, List, [], ◌∷◌, ◌++◌, codes, decimal, Result, Ok, Err}
+use Rattle.std.specs.Prelude.{ℕ, ◌+◌, min, Bool, cond, List, [], ◌∷◌, ◌++◌, codes, decimal, Result, Ok, Err}
 use Rattle.model.specs.Refusals.{refusal_number}
 use Rattle.model.specs.declared.refusal.Refusal.{Refusal}
 use Rattle.model.specs.declared.verdict.Outcome.{Outcome}
@@ -8,6 +8,7 @@ use Rattle.model.specs.declared.verdict.Verdict.TheVariants.{Accepted, Overtaken
 use Rattle.notation.specs.Text.{Notes}
 use Rattle.station.specs.declared.job.Standing.{Standing}
 use Rattle.station.specs.declared.job.Standing.TheVariants.{Live, Shut}
+use Rattle.schedule_desk.specs.declared.log.Tally.{Tally}
 use Rattle.schedule_desk.specs.declared.answer.Answer.{Answer}
 use Rattle.schedule_desk.specs.declared.answer.Answer.TheVariants.{Records, Image, Stands, Value, Done, Ticket, Decided, Settled}
 
@@ -47,7 +48,11 @@ answer_line s r words said = words ++ (codes ": " ++ (said_text s r said ++ 10 �
 abbrev pub one_more : ℕ → ℕ
 one_more n = min (n + 1) 18446744073709551615
 
+-- a tally after one more call, which was refused or not
+abbrev pub tallied : Bool → Tally → Tally
+tallied refused t = record { calls = one_more t.calls; refused = cond refused (one_more t.refused) t.refused }
+
 -- the last line of a run
-abbrev pub last_line : ℕ → ℕ → ℕ → List ℕ
-last_line calls refused jobs =
-    codes "run: " ++ (decimal calls ++ (codes " calls, " ++ (decimal refused ++ (codes " refused, " ++ (decimal jobs ++ codes " jobs in the journal\n")))))
+abbrev pub last_line : Tally → ℕ → List ℕ
+last_line t jobs =
+    codes "run: " ++ (decimal t.calls ++ (codes " calls, " ++ (decimal t.refused ++ (codes " refused, " ++ (decimal jobs ++ codes " jobs in the journal\n")))))

@@ -1,7 +1,7 @@
 // The printout, and what it counts.
-ghost use Rattle.std.specs.Prelude.{◌≡◌, ◌++◌, if◌then◌else◌, is_err, string_bytes, codes, OnOk};
+ghost use Rattle.std.specs.Prelude.{◌≡◌, ◌++◌, is_err, string_bytes, codes, OnOk, Some};
 ghost use Rattle.schedule_calls.specs.Calls.{call_text};
-ghost use Rattle.schedule_desk.specs.Answers.{answer_line, last_line, one_more};
+ghost use Rattle.schedule_desk.specs.Answers.{answer_line, last_line, tallied};
 
 use crate::answer::{Answer, Said};
 use model::refusal::Refusal;
@@ -9,14 +9,33 @@ use notation::text::Notation;
 use schedule_calls::command::Call;
 use schedule_calls::reason::{Fault, Reason};
 use std::alloc::Global;
+use std::fmt;
 use std::fmt::Write;
 
-// What a run has printed so far, and how many calls it made, and how many of them were refused.
+// How many calls a run made, and how many of them were refused.
+#[derive(Clone, Copy)]
+pub struct Tally {
+    pub calls: usize,
+    pub refused: usize,
+}
+
+impl Tally {
+    // Counts a call by what is said of it.
+    fn count<T>(&mut self, said: &Result<T, Refusal>)
+        ensures { self.new ≡ tallied (is_err said.now) self.old }
+    {
+        self.calls = self.calls.saturating_add(1);
+        if said.is_err() {
+            self.refused = self.refused.saturating_add(1);
+        }
+    }
+}
+
+// What a run has printed so far, and its tally.
 #[derive(Drop)]
 pub struct Log {
     pub text: String,
-    pub calls: usize,
-    pub refused: usize,
+    pub tally: Tally,
 }
 
 impl Log {
@@ -24,21 +43,26 @@ impl Log {
     pub fn new(heap: Global) -> Log {
         Log {
             text: String::new(heap),
-            calls: 0,
-            refused: 0,
+            tally: Tally {
+                calls: 0,
+                refused: 0,
+            },
         }
     }
 
-    // Counts a call.
-    fn count<T>(&mut self, said: &Result<T, Refusal>)
-        ensures same { self.new.text ≡ self.old.text }
-        ensures calls { self.new.calls ≡ one_more self.old.calls }
-        ensures refused { self.new.refused ≡ (if is_err said.now then one_more self.old.refused else self.old.refused) }
+    // The words of a call, and what is said of it.
+    fn said<C: fmt::Display, S: Notation, R: Notation>(
+        &mut self,
+        call: &C,
+        said: Result<Answer<S, R>, Refusal>,
+    ) -> Result<(), Fault>
+        ensures text { (words : _) → C.Display.output call.now ≡ Some words → OnOk result (string_bytes self.new.text ≡ string_bytes self.old.text ++ answer_line S.Notation.notes R.Notation.notes words said) }
+        ensures tally { OnOk result (self.new.tally ≡ tallied (is_err said) self.old.tally) }
     {
-        self.calls = self.calls.saturating_add(1);
-        if said.is_err() {
-            self.refused = self.refused.saturating_add(1);
-        }
+        self.tally.count(&said);
+        let said = Said(said);
+        writeln!(self.text, "{call}: {said}")?;
+        Ok(())
     }
 
     // The founding and its answer.
@@ -47,13 +71,9 @@ impl Log {
         said: Result<Answer<S, R>, Refusal>,
     ) -> Result<(), Fault>
         ensures text { OnOk result (string_bytes self.new.text ≡ string_bytes self.old.text ++ answer_line S.Notation.notes R.Notation.notes (codes "found") said) }
-        ensures calls { OnOk result (self.new.calls ≡ one_more self.old.calls) }
-        ensures refused { OnOk result (self.new.refused ≡ (if is_err said then one_more self.old.refused else self.old.refused)) }
+        ensures tally { OnOk result (self.new.tally ≡ tallied (is_err said) self.old.tally) }
     {
-        self.count(&said);
-        let said = Said(said);
-        writeln!(self.text, "found: {said}")?;
-        Ok(())
+        self.said(&"found", said)
     }
 
     // A call and its answer.
@@ -63,13 +83,9 @@ impl Log {
         said: Result<Answer<S, R>, Refusal>,
     ) -> Result<(), Fault>
         ensures text { OnOk result (string_bytes self.new.text ≡ string_bytes self.old.text ++ answer_line S.Notation.notes R.Notation.notes (call_text call.now) said) }
-        ensures calls { OnOk result (self.new.calls ≡ one_more self.old.calls) }
-        ensures refused { OnOk result (self.new.refused ≡ (if is_err said then one_more self.old.refused else self.old.refused)) }
+        ensures tally { OnOk result (self.new.tally ≡ tallied (is_err said) self.old.tally) }
     {
-        self.count(&said);
-        let said = Said(said);
-        writeln!(self.text, "{call}: {said}")?;
-        Ok(())
+        self.said(call, said)
     }
 
     // The line that says why a line is no call.
@@ -80,10 +96,9 @@ impl Log {
 
     // The last line: the calls, and the jobs in the journal.
     pub fn ended(&mut self, jobs: usize) -> Result<(), Fault>
-        ensures { OnOk result (string_bytes self.new.text ≡ string_bytes self.old.text ++ last_line self.old.calls self.old.refused jobs) }
+        ensures { OnOk result (string_bytes self.new.text ≡ string_bytes self.old.text ++ last_line self.old.tally jobs) }
     {
-        let calls = self.calls;
-        let refused = self.refused;
+        let Tally { calls, refused } = self.tally;
         writeln!(
             self.text,
             "run: {calls} calls, {refused} refused, {jobs} jobs in the journal"
