@@ -97,7 +97,7 @@ impl<S: Copy, R: Copy> Holdings<S, R> {
         }
     }
 
-    // Lets every job go, and waives every ticket.
+    // Lets every job go, and waives every ticket: a ticket cannot be forgotten, so they are taken out one by one.
     pub fn close(self) {
         let Holdings {
             heap: _,

@@ -107,7 +107,8 @@ impl Session {
             .try_collect(self.heap)
     }
 
-    // A desk with these opening values, and the line of its founding.
+    // A desk with these opening values, and the line of its founding. A desk holds tickets, which cannot be
+    // forgotten, so it is closed where the line finds no memory.
     fn desk<S: Stamp + Notation, R: Notation>(
         &mut self,
         journal: usize,
