@@ -1,4 +1,5 @@
-// How the bounds of a job narrow.
+// How the bounds of a job narrow. The entries are the job's and the rows an image's, which meet only here and
+// at the sheet, so they come side by side.
 ghost use Rattle.std.specs.Prelude.{◌≡◌};
 ghost use Rattle.station.specs.Station.{upper_by as upper_of, lower_by as lower_of};
 ghost use Rattle.station.specs.Heard.{firsts, reads};

@@ -22,6 +22,8 @@ fn follows(number: u32, before: u32) -> bool
 
 impl<S: Stamp> Job<S> {
     // Whether the job may go on to an image: the next one, with every record of the sheet; or why not.
+    // Its first two checks are those of a look or a put: in one function they were proved only at the limits
+    // of the search.
     fn admit_next<R: Copy>(
         &self,
         sheet: &[Entry<S, R>],
