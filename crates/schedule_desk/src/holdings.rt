@@ -20,6 +20,21 @@ pub struct Holdings<S: Copy, R: Copy> {
     tickets: BTreeMap<String, Ticket>,
 }
 
+// What stands under a name; where nothing does, the reason that names it.
+fn standing<T, F: FnOnce(String) -> Reason + Drop>(
+    heap: Global,
+    found: Option<T>,
+    name: &str,
+    missing: F,
+) -> Result<T, Fault>
+    requires { F.IsAlwaysCallable missing }
+{
+    match found {
+        Some(found) => Ok(found),
+        None => Err(missing(String::from_str(heap, name)?).into()),
+    }
+}
+
 impl<S: Copy, R: Copy> Holdings<S, R> {
     // No name stands.
     pub fn new(heap: Global) -> Holdings<S, R> {
@@ -42,34 +57,27 @@ impl<S: Copy, R: Copy> Holdings<S, R> {
 
     // The job of this name.
     pub(crate) fn job(&self, name: &str) -> Result<&Station<S, R>, Fault> {
-        match self.jobs.get(name) {
-            Some(station) => Ok(station),
-            None => Err(Reason::NoJob(String::from_str(self.heap, name)?).into()),
-        }
+        standing(self.heap, self.jobs.get(name), name, Reason::NoJob)
     }
 
     // The job of this name, for a call that goes on with it.
     pub(crate) fn job_mut(&mut self, name: &str) -> Result<&mut Station<S, R>, Fault> {
-        match self.jobs.get_mut(name) {
-            Some(station) => Ok(station),
-            None => Err(Reason::NoJob(String::from_str(self.heap, name)?).into()),
-        }
+        standing(self.heap, self.jobs.get_mut(name), name, Reason::NoJob)
     }
 
     // Takes the job of this name, with the name, which is free then.
     pub(crate) fn take_job(&mut self, name: &str) -> Result<(String, Station<S, R>), Fault> {
-        match self.jobs.remove_entry(name) {
-            Some(taken) => Ok(taken),
-            None => Err(Reason::NoJob(String::from_str(self.heap, name)?).into()),
-        }
+        standing(self.heap, self.jobs.remove_entry(name), name, Reason::NoJob)
     }
 
     // Takes the ticket of this name, with the name, which is free then.
     pub(crate) fn take_ticket(&mut self, name: &str) -> Result<(String, Ticket), Fault> {
-        match self.tickets.remove_entry(name) {
-            Some(taken) => Ok(taken),
-            None => Err(Reason::NoTicket(String::from_str(self.heap, name)?).into()),
-        }
+        standing(
+            self.heap,
+            self.tickets.remove_entry(name),
+            name,
+            Reason::NoTicket,
+        )
     }
 
     // The name stands for this job.
@@ -83,7 +91,7 @@ impl<S: Copy, R: Copy> Holdings<S, R> {
     }
 
     // The name stands for this ticket. A ticket that finds no place is waived.
-    pub(crate) fn keep_ticket(&mut self, name: String, ticket: Ticket) -> Result<(), AllocError> {
+    pub(crate) fn keep_ticket(&mut self, name: String, ticket: Ticket) -> Result<(), Fault> {
         match self.tickets.insert(name, ticket) {
             Ok(None) => Ok(()),
             Ok(Some(earlier)) => {
@@ -92,7 +100,7 @@ impl<S: Copy, R: Copy> Holdings<S, R> {
             }
             Err(AllocFailed { value: (_, ticket) }) => {
                 ticket.waive();
-                Err(AllocError)
+                Err(Fault::Memory)
             }
         }
     }
