@@ -1,5 +1,5 @@
 -- Cards: revision, unit and mass.
-use Rattle.std.specs.Prelude.{ℕ, ◌+◌, Bool, cond, ◌&&◌, List, ◌∷◌, ◌++◌, Some, None, Option, ◌==◌, slice_index}
+use Rattle.std.specs.Prelude.{ℕ, ◌+◌, Bool, cond, ◌&&◌, List, ◌∷◌, ◌++◌, Some, None, Option, ◌==◌, slice_index, codes, decimal}
 use Rattle.kinds.specs.Bytes.{be4, number4, part}
 use Rattle.kinds.specs.Values.{RecordKind}
 use Rattle.kinds.specs.declared.card.Card.{Card}
@@ -20,6 +20,9 @@ unit_numbered n =
 
 abbrev pub no_unit : ℕ → NoUnit
 no_unit n = record { 0 = n }
+
+abbrev pub no_unit_text : ℕ → List ℕ
+no_unit_text n = codes "no unit has number " ++ decimal n
 
 abbrev pub card_written : Card → List ℕ
 card_written c = be4 c.revision ++ (unit_number c.unit ∷ 0 ∷ 0 ∷ 0 ∷ be4 c.mass)

@@ -1,7 +1,7 @@
 // Cards, record kind 1: the revision of a part, the unit of its drawing, and its mass.
-ghost use Rattle.std.specs.Prelude.{◌≡◌};
+ghost use Rattle.std.specs.Prelude.{◌≡◌, Some};
 ghost use Rattle.std.specs.Option.{ok_or};
-ghost use Rattle.kinds.specs.Card.{unit_number, unit_numbered, no_unit, card_kind, card_read};
+ghost use Rattle.kinds.specs.Card.{unit_number, unit_numbered, no_unit, no_unit_text, card_kind, card_read};
 ghost use Rattle.kinds.specs.CardLaws.{card_laws};
 
 use crate::value::Record;
@@ -22,6 +22,8 @@ pub enum Unit {
 pub struct NoUnit(pub u8);
 
 impl fmt::Display for NoUnit {
+    ghost output = { λ x. Some (no_unit_text x.0) };
+
     fn fmt<W: fmt::Write>(&self, f: &mut fmt::Formatter<W>) -> fmt::Result {
         let n = self.0;
         write!(f, "no unit has number {n}")

@@ -6,7 +6,8 @@ ghost use Rattle.kinds.specs.VolumeLaws.{volume_laws};
 use crate::stamp::Stamp;
 use std::cmp::Ordering;
 
-const LAST: u32 = 9999;
+// The last volume, and the last page of a volume.
+pub const LAST: u32 = 9999;
 
 // A volume or a page above 9,999 counts as 9,999.
 #[derive(Clone, Copy)]

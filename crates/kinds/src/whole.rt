@@ -6,7 +6,8 @@ ghost use Rattle.kinds.specs.WholeLaws.{whole_laws};
 use crate::stamp::Stamp;
 use std::cmp::Ordering;
 
-const LAST: u64 = 4611686018427387903;
+// The last whole stamp, 2^62 - 1.
+pub const LAST: u64 = 4611686018427387903;
 
 const STEP: u64 = 65536;
 
