@@ -1,16 +1,11 @@
 // The generic functions, also of contents that count alike.
+use crate::tables::{LAST, MOST, OVER};
 use kinds::bounds::{before, earlier, later, same};
 use kinds::card::{Card, Unit};
 use kinds::item::Item;
 use kinds::value::same_value;
 use kinds::volume::VolumePage;
 use kinds::whole::Whole;
-
-const LAST: u64 = 0x3fff_ffff_ffff_ffff;
-
-const OVER: u64 = 0x4000_0000_0000_0000;
-
-const MOST: u64 = 0xffff_ffff_ffff_ffff;
 
 // Of two that are the same, neither.
 #[test]

@@ -105,12 +105,10 @@ fn item_zero_bytes(rt: HostRuntime) {
         [2, 0, 0, 0, 1, 2, 3, 4, 0, 0, 0, 0],
     ] {
         assert!(rt; Item::from_bytes(form).is_some());
-        for at in 1..12 {
-            if at < 4 || 8 <= at {
-                let mut bytes = form;
-                bytes[at] = 1;
-                assert!(rt; Item::from_bytes(bytes).is_none());
-            }
+        for at in (1..4).chain(8..12) {
+            let mut bytes = form;
+            bytes[at] = 1;
+            assert!(rt; Item::from_bytes(bytes).is_none());
         }
     }
 }

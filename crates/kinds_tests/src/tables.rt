@@ -2,6 +2,13 @@
 use kinds::stamp::Stamp;
 use std::test::Fail;
 
+// The last whole stamp, 2^62 - 1; the next two contents count as it.
+pub const LAST: u64 = 0x3fff_ffff_ffff_ffff;
+
+pub const OVER: u64 = 0x4000_0000_0000_0000;
+
+pub const MOST: u64 = 0xffff_ffff_ffff_ffff;
+
 // Stamps that are listed from the earliest on: each two compare as their places in the list do.
 pub fn in_order<S: Stamp>(stamps: &[S]) -> Result<(), Fail> {
     for (i, a) in stamps.iter().enumerate() {

@@ -1,15 +1,8 @@
 // Whole stamps at and around their bounds.
-use crate::tables::{in_order, is_form};
+use crate::tables::{LAST, MOST, OVER, in_order, is_form};
 use kinds::stamp::Stamp;
 use kinds::whole::Whole;
 use std::test::Fail;
-
-// The last stamp, 2^62 - 1; the next two contents count as it.
-const LAST: u64 = 0x3fff_ffff_ffff_ffff;
-
-const OVER: u64 = 0x4000_0000_0000_0000;
-
-const MOST: u64 = 0xffff_ffff_ffff_ffff;
 
 fn whole(place: u64) -> Whole {
     Whole { place }
