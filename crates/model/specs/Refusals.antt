@@ -1,5 +1,5 @@
 -- The refusals, their numbers, and checks that run in order.
-use Rattle.std.specs.Prelude.{ℕ, Bool, true, false, Some, Option}
+use Rattle.std.specs.Prelude.{ℕ, Bool, true, false, List, ◌++◌, codes, decimal, Some, Option}
 use Rattle.model.specs.declared.refusal.Refusal.{Refusal}
 use Rattle.model.specs.declared.refusal.Refusal.TheVariants.{WrongTables, JobShut, OtherImage, NotNextImage, NoSuchRecord, SheetFull, NoRoom, QueueFull, NoneWaiting, JournalFull, OutcomesFull, NotInImage, CountEnded}
 
@@ -17,6 +17,10 @@ refusal_number JournalFull = 10
 refusal_number OutcomesFull = 11
 refusal_number NotInImage = 12
 refusal_number CountEnded = 13
+
+-- a refusal as it is printed
+abbrev pub refusal_text : Refusal → List ℕ
+refusal_text r = codes "refused " ++ decimal (refusal_number r)
 
 -- the first check that fails refuses the call
 abbrev pub refused_if : Bool → Refusal → Option Refusal → Option Refusal

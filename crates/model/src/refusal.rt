@@ -1,6 +1,9 @@
 // Refusals.
-ghost use Rattle.std.specs.Prelude.{◌≡◌};
-ghost use Rattle.model.specs.Refusals.{refusal_number};
+ghost use Rattle.std.specs.Prelude.{◌≡◌, Some};
+ghost use Rattle.model.specs.Refusals.{refusal_number, refusal_text};
+
+use std::error::Error;
+use std::fmt;
 
 // Why a call was refused, each with its number. A refused call alters nothing.
 #[derive(Clone, Copy, Debug, PartialEq, Eq)]
@@ -29,11 +32,14 @@ impl From<Refusal> for u8 {
     }
 }
 
-impl Refusal {
-    // The number of a refusal.
-    pub fn number(self) -> u8
-        ensures { result ≡ refusal_number self }
-    {
-        u8::from(self)
+// A refusal by its number, as `refused 7`.
+impl fmt::Display for Refusal {
+    ghost output = { λ x. Some (refusal_text x) };
+
+    fn fmt<W: fmt::Write>(&self, f: &mut fmt::Formatter<W>) -> fmt::Result {
+        let number = u8::from(*self);
+        write!(f, "refused {number}")
     }
 }
+
+impl Error for Refusal {}
