@@ -10,7 +10,8 @@ use registrar::journal::Head;
 use registrar::queue::Submission;
 use registrar::registrar::Registrar;
 
-// The books of a finished run: the registrar with its eight tables, only to be read.
+// The books of a finished run: the registrar with its eight tables, only to be read. A call's bundle of the
+// same tables asks for leave to write, which is more than a reader of them has.
 #[derive_where(Clone, Copy)]
 pub struct Books<'a, S, R> {
     pub registrar: &'a Registrar,
