@@ -1,5 +1,5 @@
 -- A registrar's tables as their owner has them.
-use Rattle.std.specs.Prelude.{false, None, []}
+use Rattle.std.specs.Prelude.{ℕ, ◌*◌, min, false, None, []}
 use Rattle.kinds.specs.Stamps.{Order}
 use Rattle.model.specs.declared.entry.Entry.{Entry}
 use Rattle.model.specs.declared.row.Row.{Row}
@@ -11,6 +11,10 @@ use Rattle.registrar.specs.declared.journal.Head.{Head}
 use Rattle.registrar.specs.Registry.{Registry}
 use Rattle.registrar.specs.Calls.{registry_of, no_numbers}
 use Rattle.office.specs.declared.store.Store.{Store}
+
+-- the lines of a journal: 16 to each place, as far as a number of places goes
+abbrev pub lines_for : ℕ → ℕ
+lines_for journal = min (journal * 16) 18446744073709551615
 
 -- a free place of a table of outcomes
 abbrev pub free_outcome : {S : Type 0} → Outcome S

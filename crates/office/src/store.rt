@@ -2,7 +2,7 @@
 ghost use Rattle.std.specs.Prelude.{◌≡◌, ◌*◌, IfOk, replicate};
 ghost use Rattle.registrar.specs.Calls.{registry_in, no_numbers};
 ghost use Rattle.law.specs.HandOver.{registry_in_books};
-ghost use Rattle.office.specs.Store.{registry_kept, no_tables, blank_entry, unfounded_row, free_outcome, free_submission, free_head};
+ghost use Rattle.office.specs.Store.{registry_kept, no_tables, blank_entry, unfounded_row, free_outcome, free_submission, free_head, lines_for};
 
 use kinds::stamp::Stamp;
 use law::handover::Books;
@@ -103,14 +103,6 @@ fn no_job<S: Stamp>() -> Head<S>
     }
 }
 
-// The number of lines of a journal, 16 for each place for a job. For more lines than a number counts there
-// is no memory.
-fn lines_of(journal: usize) -> Result<usize, AllocError>
-    ensures { IfOk result (λ lines. lines ≡ 16 * journal) }
-{
-    16usize.checked_mul(journal).ok_or(AllocError)
-}
-
 impl<S: Stamp, R: Copy> Store<S, R> {
     // Tables for a register of so many records, with a journal of so many places. A value fills the places
     // in which a value stands before the founding.
@@ -127,9 +119,8 @@ impl<S: Stamp, R: Copy> Store<S, R> {
         ensures queued { IfOk result (λ s. s.queued.items ≡ replicate 256 (blank_entry S.Stamp.kind.order value)) }
         ensures outcomes { IfOk result (λ s. s.outcomes.items ≡ replicate 32 free_outcome) }
         ensures heads { IfOk result (λ s. s.heads.items ≡ replicate journal (free_head S.Stamp.kind.order)) }
-        ensures lines { IfOk result (λ s. s.lines.items ≡ replicate (16 * journal) (blank_entry S.Stamp.kind.order value)) }
+        ensures lines { IfOk result (λ s. s.lines.items ≡ replicate (lines_for journal) (blank_entry S.Stamp.kind.order value)) }
     {
-        let lines = lines_of(journal)?;
         Ok(Store {
             rows: places(heap, unfounded(value), records)?,
             firsts: places(heap, None, records)?,
@@ -138,7 +129,7 @@ impl<S: Stamp, R: Copy> Store<S, R> {
             queued: places(heap, blank(value), 256)?,
             outcomes: places(heap, no_outcome(), 32)?,
             heads: places(heap, no_job(), journal)?,
-            lines: places(heap, blank(value), lines)?,
+            lines: places(heap, blank(value), journal.saturating_mul(16))?,
         })
     }
 
