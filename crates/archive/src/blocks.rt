@@ -101,7 +101,8 @@ fn block<S: Stamp, R: Record>(
     Ok(h)
 }
 
-// The blocks of an archive; the answer is where the last ends.
+// The blocks of an archive; the answer is where the last ends. The replay and the play walk over them too: what
+// each does at a block asks for other things, which one walk for all would have to ask of its callers.
 pub(crate) fn blocks<S: Stamp, R: Record>(archive: &Archive<'_>) -> Result<usize, Fault>
     ensures { result ≡ read_blocks S.Stamp.kind.order R.Record.kind.form archive.now.bytes.now archive.now.stated.records 20 (20 + 8 * archive.now.stated.jobs + 12 * archive.now.stated.records) S.Stamp.kind.order.least archive.now.stated.jobs }
 {

@@ -31,13 +31,6 @@ impl From<Fault> for u8 {
 }
 
 impl Fault {
-    // The number of a fault.
-    pub fn number(self) -> u8
-        ensures { result ≡ (fault_listed self).number }
-    {
-        u8::from(self)
-    }
-
     // The place of its first byte, if it stands at one.
     pub fn place(self) -> Option<usize>
         ensures { result ≡ (fault_listed self).place }

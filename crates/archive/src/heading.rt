@@ -5,6 +5,7 @@ ghost use Rattle.archive.specs.Heading.{Limited, read_sizes, read_heading};
 use crate::fault::Fault;
 use kinds::stamp::Stamp;
 use kinds::value::Record;
+use model::tables::lawful;
 
 // What a heading states: how many records and how many jobs. The definitions make one of any two numbers,
 // so its limits are a fact with a name, and no ghost field.
@@ -24,11 +25,12 @@ fn sizes(rest: &[u8]) -> Result<Heading, Fault>
     };
     let records = u16::from_be_bytes([*n0, *n1]);
     let jobs = u32::from_be_bytes([*j0, *j1, *j2, *j3]);
-    if records < 1 || records > 1024 || jobs > 4096 {
+    let records = usize::from(records);
+    if !lawful(records) || jobs > 4096 {
         return Err(Fault::HeadingWrong);
     }
     Ok(Heading {
-        records: usize::from(records),
+        records,
         jobs: jobs as usize,
     })
 }

@@ -27,7 +27,7 @@ pub(crate) fn checked<S: Stamp, R: Record>(bytes: &[u8]) -> Result<Archive<'_>, 
     Ok(archive)
 }
 
-// The first fault, or the number of jobs.
+// The first fault, or the number of jobs. What else inspect promises follows from this.
 fn examine<S: Stamp, R: Record>(bytes: &[u8]) -> Result<usize, Fault>
     ensures { result ≡ inspected S.Stamp.kind.order R.Record.kind bytes.now }
 {

@@ -1,5 +1,5 @@
 // Plays an archive into a space of values.
-ghost use Rattle.std.specs.Prelude.{◌≡◌, ◌+◌, ◌*◌, ◌<◌, ◌≤◌, length, OnOk, slice_set};
+ghost use Rattle.std.specs.Prelude.{◌≡◌, ◌+◌, ◌*◌, ◌<◌, ◌≤◌, length, OnOk};
 ghost use Rattle.archive.specs.Values.{read_values, stated_values};
 ghost use Rattle.archive.specs.Rule.{read_archive};
 ghost use Rattle.archive.specs.Played.{value_entered, values_after, block_played, blocks_played, play_answer, play_leaves};
@@ -13,8 +13,9 @@ use crate::values::value;
 use crate::whole::Archive;
 use kinds::stamp::Stamp;
 use kinds::value::Record;
+use model::tables::store;
 
-// Reads the opening values into a space for them.
+// Reads the opening values into a space for them, each by its place, which a fault names.
 fn load<R: Record>(bytes: &[u8], at: usize, space: &mut [R]) -> Result<(), Fault>
     requires { at + 12 * length space.old ≤ length bytes.now }
     ensures answer { result ≡ read_values R.Record.kind.form bytes.now at 12 (length space.old) }
@@ -26,22 +27,12 @@ fn load<R: Record>(bytes: &[u8], at: usize, space: &mut [R]) -> Result<(), Fault
     Ok(())
 }
 
-// Enters a value at a record, if the space has it. By index, since the check does not follow what is written
-// through `get_mut` at a type of any kind.
-fn enter_at<R: Record>(space: &mut [R], x: usize, v: R)
-    ensures { space.new ≡ slice_set space.old x v }
-{
-    if x < space.len() {
-        space[x] = v;
-    }
-}
-
 // Enters the value of a put at its record.
 fn enter_put<R: Record>(put: &[u8; 14], space: &mut [R])
     ensures { space.new ≡ value_entered R.Record.kind.form space.old put.now }
 {
     if let Ok(v) = value(put, 2) {
-        enter_at(space, usize::from(record_at(put, 0)), v);
+        store(space, usize::from(record_at(put, 0)), v);
     }
 }
 
