@@ -2,7 +2,6 @@
 
 #![tactic(auto)]
 
-use anyhow::anyhow;
 use kinds::card::{Card, Unit};
 use kinds::whole::Whole;
 use model::entry::Entry;
@@ -96,7 +95,7 @@ fn verdict(
     sheet: &[Entry<Whole, Card>],
 ) -> Result<Verdict<Whole>, Refusal> {
     let ticket = office.submit(job, sheet).map_err(|(refusal, _)| refusal)?;
-    // a ticket is not let go by `?`: what is refused here shows when it is settled
+    // With `?` a ticket would be let go here; what is refused shows when it is settled.
     let _ = office.decide();
     let _ = office.publish();
     ticket.settle(office.image()).map_err(|(refusal, ticket)| {
@@ -117,11 +116,6 @@ fn day(
     Ok((frame, verdict))
 }
 
-// Where the founding is refused there is no day.
-fn no_day(refusal: Refusal) -> anyhow::Error {
-    anyhow!("refused {}", u8::from(refusal))
-}
-
 fn main(rt: HostRuntime) -> anyhow::Result<()> {
     let frame = Card {
         revision: 1,
@@ -136,7 +130,7 @@ fn main(rt: HostRuntime) -> anyhow::Result<()> {
     let values = [frame, bracket];
     let store = Store::new(rt.alloc(), frame, values.len(), 8)?;
     let published = Published::opening(rt.alloc(), &values)?;
-    let mut office = Office::found(&values, store, published).map_err(no_day)?;
+    let mut office = Office::found(&values, store, published)?;
     let mut sheet = [blank(frame); 16];
     match day(&mut office, &mut sheet) {
         Ok((seen, Verdict::Accepted { stamp })) => {
@@ -146,7 +140,7 @@ fn main(rt: HostRuntime) -> anyhow::Result<()> {
             )?;
         }
         Ok(_) => println!(rt; "the job is not accepted")?,
-        Err(refusal) => println!(rt; "refused {}", u8::from(refusal))?,
+        Err(refusal) => println!(rt; "{refusal}")?,
     }
     let jobs = office.hand_over();
     println!(rt;
