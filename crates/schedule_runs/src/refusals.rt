@@ -21,9 +21,7 @@ fn foundings(rt: HostRuntime) -> Result<(), Fail> {
         "found: 1 records\nrun: 1 calls, 0 refused, 0 jobs in the journal\n",
     )?;
     let mut many = String::from_str(heap, "found whole item 1")?;
-    for _ in 0..1024 {
-        many.push_str(" withdrawn")?;
-    }
+    many.push_str(&" withdrawn".repeat(heap, 1024)?)?;
     ends(
         heap,
         &many,
@@ -46,9 +44,7 @@ fn of_one_job(rt: HostRuntime) -> Result<(), Fail> {
 fn full_sheet(rt: HostRuntime) -> Result<(), Fail> {
     let heap = rt.alloc();
     let mut input = String::from_str(heap, "found whole item 1")?;
-    for _ in 0..17 {
-        input.push_str(" withdrawn")?;
-    }
+    input.push_str(&" withdrawn".repeat(heap, 17)?)?;
     input.push_str("\npublish\nopen A 1\n")?;
     for i in 0..17u8 {
         writeln!(input, "look A {i}")?;
