@@ -17,13 +17,6 @@ pub fn first_write<S: Copy, R: Copy>(rows: &[ImageRow<S, R>], number: usize) -> 
     at(rows, number).and_then(|row| row.first)
 }
 
-// The read stamp of a record, if there is such a record: another field than the first write, read alike.
-pub fn read_stamp<S: Copy, R: Copy>(rows: &[ImageRow<S, R>], number: usize) -> Option<S>
-    ensures { result ≡ reads rows.now number }
-{
-    at(rows, number).map(|row| row.read)
-}
-
 // The upper bound, narrowed by the first write of each open entry's record.
 pub fn upper_by<S: Stamp, R: Copy>(
     entries: &[Entry<S, R>],
@@ -46,6 +39,6 @@ pub fn lower_by<S: Stamp, R: Copy>(entries: &[Entry<S, R>], rows: &[ImageRow<S, 
     entries
         .iter()
         .filter(|entry| entry.put)
-        .filter_map(|entry| read_stamp(rows, entry.number))
-        .fold(lower, |lower, read| later(lower, read))
+        .filter_map(|entry| at(rows, entry.number))
+        .fold(lower, |lower, row| later(lower, row.read))
 }
