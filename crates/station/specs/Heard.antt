@@ -8,10 +8,10 @@ use Rattle.model.specs.declared.entry.Entry.{Entry}
 use Rattle.model.specs.declared.image.Image.{Image as Broadcast}
 use Rattle.model.specs.declared.image.ImageRow.{ImageRow}
 use Rattle.model.specs.declared.refusal.Refusal.{Refusal}
-use Rattle.model.specs.declared.refusal.Refusal.TheVariants.{WrongTables, NoSuchRecord, NoRoom}
+use Rattle.model.specs.declared.refusal.Refusal.TheVariants.{WrongTables, JobShut, NoSuchRecord, NoRoom}
 use Rattle.model.specs.Tables.{sized}
 use Rattle.station.specs.declared.job.Job.{Job}
-use Rattle.station.specs.Station.{Image, image_sized, Station, Answered, work_of, at_image, at_next, first_in, read_in}
+use Rattle.station.specs.Station.{Image, image_sized, Station, Answered, work_of, is_shut, at_image, at_next, first_in, read_in}
 
 module _ {S R : Type 0} where
   -- an image as the code has it, with what its tables hold
@@ -39,6 +39,10 @@ module _ {S R : Type 0} where
   abbrev pub found_at : ℕ → List (Entry S R) → Option (ℕ × Entry S R)
   found_at x [] = None
   found_at x (e ∷ es) = cond (x == e.number) (Some (0, e)) (option_map one_on (found_at x es))
+
+  -- whether a call's tables have their sizes and its job is live, or why not
+  abbrev pub readied : Station S R → Image S R → Result (Unit {0}) Refusal
+  readied t i = cond (image_sized i && sized t.sheet 16) (cond (is_shut t.job.standing) (Err JobShut) (Ok tt)) (Err WrongTables)
 
   -- the row that a look or a put is about, or why the call is refused
   abbrev pub row_unless : Option Refusal → Option (ImageRow S R) → Result (ImageRow S R) Refusal

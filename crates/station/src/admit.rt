@@ -1,7 +1,7 @@
 // The checks that calls share.
 ghost use Rattle.std.specs.Prelude.{◌≡◌, Ok, nat_le};
 ghost use Rattle.station.specs.Station.{is_shut as shut_as};
-ghost use Rattle.station.specs.Heard.{heard, station as at_station, answered, admitted, roomed};
+ghost use Rattle.station.specs.Heard.{heard, station as at_station, answered, readied, admitted, roomed};
 ghost use Rattle.station.specs.Places.{entered_at};
 
 use crate::job::{Job, Standing};
@@ -22,6 +22,23 @@ impl<S> Job<S> {
 }
 
 impl<S: Stamp> Job<S> {
+    // Whether the tables of a call have their sizes and the job is live; or why not.
+    pub(crate) fn ready<R: Copy>(
+        &self,
+        sheet: &[Entry<S, R>],
+        image: Image<'_, S, R>,
+    ) -> Result<(), Refusal>
+        ensures { result ≡ readied (at_station self.now sheet.now) (heard image.entry) }
+    {
+        if !fit(image, sheet) {
+            return Err(Refusal::WrongTables);
+        }
+        if self.is_shut() {
+            return Err(Refusal::JobShut);
+        }
+        Ok(())
+    }
+
     // The row that a look or a put is about, or why the call is refused.
     pub(crate) fn admit<R: Copy>(
         &self,
@@ -31,12 +48,7 @@ impl<S: Stamp> Job<S> {
     ) -> Result<ImageRow<S, R>, Refusal>
         ensures { result ≡ admitted (at_station self.now sheet.now) (heard image.entry) number }
     {
-        if !fit(image, sheet) {
-            return Err(Refusal::WrongTables);
-        }
-        if self.is_shut() {
-            return Err(Refusal::JobShut);
-        }
+        self.ready(sheet, image)?;
         if image.number != self.image {
             return Err(Refusal::OtherImage);
         }

@@ -6,7 +6,7 @@ ghost use Rattle.station.specs.Places.{bounds_at, tune_at};
 
 use crate::bounds::{lower_by, upper_by};
 use crate::job::{Job, Standing};
-use crate::sheet::{close, fit, struck};
+use crate::sheet::{close, struck};
 use kinds::stamp::Stamp;
 use model::entry::{Entry, beyond};
 use model::image::{Image, ImageRow};
@@ -22,8 +22,6 @@ fn follows(number: u32, before: u32) -> bool
 
 impl<S: Stamp> Job<S> {
     // Whether the job may go on to an image: the next one, with every record of the sheet; or why not.
-    // Its first two checks are those of a look or a put: in one function they were proved only at the limits
-    // of the search.
     fn admit_next<R: Copy>(
         &self,
         sheet: &[Entry<S, R>],
@@ -31,12 +29,7 @@ impl<S: Stamp> Job<S> {
     ) -> Result<(), Refusal>
         ensures { result ≡ admitted_next S.Stamp.kind (at_station self.now sheet.now) (heard image.entry) }
     {
-        if !fit(image, sheet) {
-            return Err(Refusal::WrongTables);
-        }
-        if self.is_shut() {
-            return Err(Refusal::JobShut);
-        }
+        self.ready(sheet, image)?;
         if !follows(image.number, self.image) {
             return Err(Refusal::NotNextImage);
         }
