@@ -69,10 +69,8 @@ fn narrow<S: Stamp, R: Copy>(
     if !entry.opened {
         return Some(upper);
     }
-    match following(entry.noted, at(rows, entry.number))? {
-        None => Some(upper),
-        Some(next) => Some(Some(earlier(upper, next))),
-    }
+    let next = following(entry.noted, at(rows, entry.number))?;
+    Some(next.map_or(upper, |next| Some(earlier(upper, next))))
 }
 
 // The upper bound after all entries; none where a noted version is gone.
