@@ -1,5 +1,5 @@
 // The verdict on a submission, from the rows as they stand.
-ghost use Rattle.std.specs.Prelude.{◌≡◌, Some, None, if◌then◌else◌};
+ghost use Rattle.std.specs.Prelude.{◌≡◌, Some, None, if◌then◌else◌, ok_or};
 ghost use Rattle.std.specs.List.{slice_get};
 ghost use Rattle.kinds.specs.Bounds.{same as same_as};
 ghost use Rattle.registrar.specs.Deciding.{noted_elsewhere, overtaken as overtaken_by, following as following_in, bounded_by, upper_bound, last_use as use_in, lower_bound, verdict_on};
@@ -31,31 +31,35 @@ fn overtaken<S: Stamp, R: Copy>(rows: &[Row<S, R>], entries: &[Entry<S, R>]) -> 
         .any(|entry| moved_on(entry.noted, at(rows, entry.number)))
 }
 
-// The next version, where the noted stamp is this one; none where it is another. Here and below the inner
-// option is a bound that may be absent, as in the definitions: a type for both would only rename them.
-fn follows<S: Stamp>(noted: S, next: S, version: S) -> Option<Option<S>>
-    ensures { result ≡ (if same_as S.Stamp.kind.order noted version then Some (Some next) else None) }
+// The next version, where the noted stamp is this one; none where it is another.
+fn follows<S: Stamp>(noted: S, next: S, version: S) -> Option<S>
+    ensures { result ≡ (if same_as S.Stamp.kind.order noted version then Some next else None) }
 {
-    same(noted, version).then_some(Some(next))
+    same(noted, version).then_some(next)
 }
 
-// The version of a row that follows the noted stamp, if any; none where the stamp is gone.
-fn following<S: Stamp, R: Copy>(noted: S, row: Option<Row<S, R>>) -> Option<Option<S>>
-    ensures { result ≡ following_in S.Stamp.kind.order noted row }
+// Why there is no bound: no version of the row has the noted stamp any more.
+#[derive(Clone, Copy)]
+struct Gone;
+
+// The version of a row that follows the noted stamp, if any.
+fn following<S: Stamp, R: Copy>(noted: S, row: Option<Row<S, R>>) -> Result<Option<S>, Gone>
+    ensures { result ≡ ok_or (following_in S.Stamp.kind.order noted row) (record {}) }
 {
-    let row = row?;
+    let row = row.ok_or(Gone)?;
     let last = latest(&row);
     if same(noted, last) {
-        return Some(None);
+        return Ok(None);
     }
-    match row.count {
+    let next = match row.count {
         0 | 1 => None,
         2 => follows(noted, last, row.one),
         3 => follows(noted, last, row.two).or(follows(noted, row.two, row.one)),
         _ => follows(noted, last, row.three)
             .or(follows(noted, row.three, row.two))
             .or(follows(noted, row.two, row.one)),
-    }
+    };
+    next.map(Some).ok_or(Gone)
 }
 
 // The upper bound after one entry: for an open one the earlier of itself and the version that follows.
@@ -63,29 +67,29 @@ fn narrow<S: Stamp, R: Copy>(
     rows: &[Row<S, R>],
     entry: Entry<S, R>,
     upper: Option<S>,
-) -> Option<Option<S>>
-    ensures { result ≡ bounded_by S.Stamp.kind.order entry.opened (following_in S.Stamp.kind.order entry.noted (slice_get rows.now entry.number)) upper }
+) -> Result<Option<S>, Gone>
+    ensures { result ≡ ok_or (bounded_by S.Stamp.kind.order entry.opened (following_in S.Stamp.kind.order entry.noted (slice_get rows.now entry.number)) upper) (record {}) }
 {
     if !entry.opened {
-        return Some(upper);
+        return Ok(upper);
     }
     let next = following(entry.noted, at(rows, entry.number))?;
-    Some(next.map_or(upper, |next| Some(earlier(upper, next))))
+    Ok(next.map_or(upper, |next| Some(earlier(upper, next))))
 }
 
-// The upper bound after all entries; none where a noted version is gone.
+// The upper bound after all entries, unless what one of them noted is gone.
 fn upper_after<S: Stamp, R: Copy>(
     rows: &[Row<S, R>],
     entries: &[Entry<S, R>],
     upper: Option<S>,
-) -> Option<Option<S>>
-    ensures { result ≡ upper_bound S.Stamp.kind.order rows.now entries.now upper }
+) -> Result<Option<S>, Gone>
+    ensures { result ≡ ok_or (upper_bound S.Stamp.kind.order rows.now entries.now upper) (record {}) }
 {
     let mut bound = upper;
     for entry in entries {
         bound = narrow(rows, *entry, bound)?;
     }
-    Some(bound)
+    Ok(bound)
 }
 
 // The later of a record's read and write stamps, if there is such a record.
@@ -119,7 +123,7 @@ pub(crate) fn verdict<S: Stamp, R: Copy>(
     if overtaken(rows, entries) {
         return Verdict::Overtaken;
     }
-    let Some(upper) = upper_after(rows, entries, submission.upper) else {
+    let Ok(upper) = upper_after(rows, entries, submission.upper) else {
         return Verdict::Gone;
     };
     match lower_after(rows, entries, submission.lower).pick(upper) {
