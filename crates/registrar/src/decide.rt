@@ -15,7 +15,8 @@ use model::refusal::Refusal;
 use model::tables::{front, store};
 use model::verdict::{Outcome, Verdict};
 
-// The stamp of an accepted job. (A pattern on the verdict in decide itself would move it in one branch only.)
+// The stamp of an accepted job. It stands apart since what a pattern in decide knows is lost where its branches
+// join.
 fn stamp_of<S: Copy>(verdict: Verdict<S>) -> Option<S>
     ensures { result ≡ by_stamp verdict None (λ s. Some s) }
 {

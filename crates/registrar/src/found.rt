@@ -24,8 +24,8 @@ fn new_row<S: Stamp, R: Copy>(value: R, row: &Row<S, R>) -> Row<S, R>
     }
 }
 
-// Each row gets its opening value. The values go by index: what a `zip` over `iter_mut` has written is
-// not known to a proof.
+// Each row gets its opening value. One side goes by index: after a `zip` over `iter_mut` a proof knows nothing
+// of what was written (tried).
 fn new_rows<S: Stamp, R: Copy>(rows: &mut [Row<S, R>], values: &[R])
     requires { length rows.old ≡ length values.now }
     ensures { rows.new ≡ founded_rows S.Stamp.kind.order values.now rows.old }

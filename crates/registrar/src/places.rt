@@ -2,7 +2,8 @@
 ghost use Rattle.std.specs.Prelude.{◌≡◌, ◌+◌, ◌*◌, ◌≤◌, length, take, drop};
 ghost use Rattle.model.specs.Tables.{laid_from};
 
-// New contents from a place on; the other places keep theirs.
+// New contents from a place on; the other places keep theirs. The archive has a function that says the same of
+// bytes: a public one for both would ask its callers for room, which no public function does.
 pub(crate) fn lay<T: Copy>(table: &mut [T], place: usize, new: &[T])
     requires { place + length new.now ≤ length table.old }
     ensures { table.new ≡ laid_from place new.now table.old }

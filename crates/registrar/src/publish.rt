@@ -36,8 +36,8 @@ fn show<S: Copy, R: Copy>(row: &Row<S, R>, first: Option<S>) -> ImageRow<S, R>
     }
 }
 
-// The image's rows: each row of the register with its first write. These go by index: what a `zip` over
-// `iter_mut` has written is not known to a proof.
+// The image's rows: each row of the register with its first write. One side goes by index: after a `zip` over
+// `iter_mut` a proof knows nothing of what was written (tried).
 fn show_all<S: Copy, R: Copy>(
     image: &mut [ImageRow<S, R>],
     rows: &[Row<S, R>],
