@@ -6,10 +6,8 @@ ghost use Rattle.notation.specs.PageLaws.{page_back, page_alike};
 use crate::cut::cut;
 use crate::numbers::number;
 use crate::text::Notation;
-use kinds::volume::VolumePage;
+use kinds::volume::{LAST, VolumePage};
 use std::fmt;
-
-const LAST: u64 = 9999;
 
 impl Notation for VolumePage {
     ghost notes = { page_notes };
@@ -23,8 +21,8 @@ impl Notation for VolumePage {
         ensures { result ≡ page_parsed word.now }
     {
         let (volume, page) = cut(word, b'/')?;
-        let volume = number(volume, LAST)? as u32;
-        let page = number(page, LAST)? as u32;
+        let volume = number(volume, u64::from(LAST))? as u32;
+        let page = number(page, u64::from(LAST))? as u32;
         Some(VolumePage { volume, page })
     }
 

@@ -5,10 +5,8 @@ ghost use Rattle.notation.specs.WholeLaws.{whole_back, whole_alike};
 
 use crate::numbers::number;
 use crate::text::Notation;
-use kinds::whole::Whole;
+use kinds::whole::{LAST, Whole};
 use std::fmt;
-
-const LAST: u64 = 4611686018427387903;
 
 impl Notation for Whole {
     ghost notes = { whole_notes };
