@@ -9,9 +9,8 @@ use crate::text::Notation;
 use kinds::card::{Card, Unit};
 use std::fmt;
 
-const LARGEST: u64 = u32::MAX as u64;
-
-// The word for a unit; a function, since a unit's `Display` could stand only in its own crate.
+// The word for a unit; a function, since a unit's `Display` could stand only in kinds, beside the type, and kinds holds
+// no text: how stamps and values are written lies here together.
 pub fn unit_text(unit: Unit) -> &'static str
     ensures { result.now ≡ unit_name unit }
 {
@@ -49,9 +48,9 @@ impl Notation for Card {
     {
         let (revision, rest) = cut(word, b':')?;
         let (unit, mass) = cut(rest, b':')?;
-        let revision = number(revision, LARGEST)? as u32;
+        let revision = number(revision, u32::MAX.into())? as u32;
         let unit = parse_unit(unit)?;
-        let mass = number(mass, LARGEST)? as u32;
+        let mass = number(mass, u32::MAX.into())? as u32;
         Some(Card {
             revision,
             unit,

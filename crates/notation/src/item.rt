@@ -6,19 +6,14 @@ ghost use Rattle.notation.specs.ItemLaws.{item_back, item_alike};
 use crate::cut::cut;
 use crate::numbers::number;
 use crate::text::Notation;
-use crate::words::is_word;
 use kinds::item::Item;
 use std::fmt;
-
-const LARGEST_SHAPE: u64 = u32::MAX as u64;
-
-const LARGEST: u64 = u16::MAX as u64;
 
 // A solid, by the number of its shape.
 fn parse_solid(word: &[u8]) -> Option<Item>
     ensures { result ≡ solid_parsed word.now }
 {
-    let shape = number(word, LARGEST_SHAPE)? as u32;
+    let shape = number(word, u32::MAX.into())? as u32;
     Some(Item::Solid { shape })
 }
 
@@ -27,8 +22,8 @@ fn parse_sub(word: &[u8]) -> Option<Item>
     ensures { result ≡ sub_parsed word.now }
 {
     let (part, count) = cut(word, b':')?;
-    let part = number(part, LARGEST)? as u16;
-    let count = number(count, LARGEST)? as u16;
+    let part = number(part, u16::MAX.into())? as u16;
+    let count = number(count, u16::MAX.into())? as u16;
     (count != 0).then_some(Item::SubAssembly { part, count })
 }
 
@@ -43,7 +38,7 @@ impl Notation for Item {
     fn parse(word: &[u8]) -> Option<Item>
         ensures { result ≡ item_parsed word.now }
     {
-        if is_word(word, "withdrawn") {
+        if word == b"withdrawn".as_slice() {
             return Some(Item::Withdrawn);
         }
         match cut(word, b':')? {

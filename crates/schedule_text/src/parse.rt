@@ -46,7 +46,8 @@ fn parse_written(kind: &[u8], word: &[u8]) -> Result<Written, Reason>
     }
 }
 
-// An upper bound: a stamp, or `none`. The inner `None` is that bound, and the outer one a word that is neither.
+// An upper bound: a stamp, or `none`. The inner `None` is that bound, and the outer one a word that is neither; no
+// `Result`, since the caller for each stamp kind turns that into the reason of its own kind.
 fn parse_upper<S: Notation>(word: &[u8]) -> Option<Option<S>>
     ensures { result ≡ upper_of S.Notation.notes.parsed word.now }
 {

@@ -23,7 +23,7 @@ pub enum Reason {
 }
 
 impl Reason {
-    // The reason in words. It stands beside `Display`, which borrows no text, for callers that choose among fixed texts.
+    // The reason in words, which `Display` prints.
     pub fn text(self) -> &'static str
         ensures { result.now ≡ reason_text self }
     {
