@@ -1,53 +1,72 @@
--- Numbers: what a loop over the digits has read, and that a printed number is read back.
-use Rattle.std.specs.Prelude.{◌≡◌, ℕ, ◌+◌, ◌-◌, ◌*◌, ◌^◌, ◌<◌, ◌≤◌, true, false, cond, ◌&&◌, List, [], ◌∷◌, length, drop, Some, None, decimal, Option, ◌≢◌, nat_le, slice_index}
-use Rattle.std.proofs.Common.{ap, ◌∙◌, arith, rules}
+-- Numbers: what `parse` answers for digits, and that a printed number is read back.
+use Rattle.std.specs.Prelude.{◌≡◌, ℕ, ◌^◌, ◌<◌, ◌≤◌, true, false, cond, ◌&&◌, List, [], ◌∷◌, length, Some, None, Ok, Err, decimal, Option, Result, nat_le, nat_lt}
+use Rattle.std.proofs.Common.{Bool, ⊎_elim, refl, subst, sym, ap, ◌∙◌, arith, rules}
+use Rattle.std.specs.Bool.{then_some}
 use Rattle.std.specs.Char.{is_ascii_digit}
-use Rattle.std.specs.Str.{all_ascii_digits}
-use Rattle.std.proofs.lemmas.List.{at_drop_more}
-use Rattle.std.proofs.lemmas.Bool.{lt-leb, le-leb, lt-ltb, cond-false, and_right}
-use Rattle.std.proofs.lemmas.Str.Parse.{IsNumeralModel, numerals_by_fold}
-use Rattle.std.proofs.lemmas.Fmt.{digits_decimal, digits_value-decimal, decimal_nonempty}
+use Rattle.std.specs.List.{list_all}
+use Rattle.std.specs.Result.{result_ok}
+use Rattle.std.specs.Str.{all_ascii_digits, IsUtf8}
+use Rattle.std.specs.Str.Parse.{ParsesUnsigned}
+use Rattle.std.proofs.lemmas.Bool.{lt-leb, le-leb, lt-ltb, cond-false, and_right, cases_lt}
+use Rattle.std.proofs.lemmas.Str.{IsUtf8-from_ascii}
+use Rattle.std.proofs.lemmas.Str.Parse.{IsNumeralModel, numerals_by_fold, parse_digits}
+use Rattle.std.proofs.lemmas.Fmt.{digits_decimal, digits_value-decimal, decimal_nonempty, IsAscii-from_digits}
 use Rattle.notation.specs.Numbers.{value_on, number_of}
-
--- the answer where n was read and digits are left
-abbrev pub read_on : ℕ → ℕ → List ℕ → Option ℕ
-read_on most n ds = cond (all_ascii_digits ds && nat_le (value_on n ds) most) (Some (value_on n ds)) None
-
-pub read_digit : (most n c : ℕ) (cs : List ℕ) → is_ascii_digit c ≡ true → read_on most n (c ∷ cs) ≡ read_on most (n * 10 + (c - 48)) cs
-read_digit most n c cs e = ap (λ t. cond ((t && all_ascii_digits cs) && nat_le (value_on (n * 10 + (c - 48)) cs) most) (Some (value_on (n * 10 + (c - 48)) cs)) None) e
-
-pub read_other : (most n c : ℕ) (cs : List ℕ) → is_ascii_digit c ≡ false → read_on most n (c ∷ cs) ≡ None
-read_other most n c cs e = ap (λ t. cond ((t && all_ascii_digits cs) && nat_le (value_on (n * 10 + (c - 48)) cs) most) (Some (value_on (n * 10 + (c - 48)) cs)) None) e
-
-grows : (n : ℕ) (ds : List ℕ) → n ≤ value_on n ds
-grows n [] = omega arith
-grows n (c ∷ cs) = let h = grows (n * 10 + (c - 48)) cs in omega arith
-
-pub read_past : (most n : ℕ) (ds : List ℕ) → most < n → read_on most n ds ≡ None
-read_past most n ds h =
-    let g = grows n ds in
-    cond-false (all_ascii_digits ds && nat_le (value_on n ds) most) (Some (value_on n ds)) None
-    (and_right (all_ascii_digits ds) (nat_le (value_on n ds) most) (lt-leb (value_on n ds) most (omega arith)))
-
--- one turn of the loop, at the place i
-pub next_digit : (most n i : ℕ) (ds : List ℕ) → i < length ds → is_ascii_digit (slice_index ds i) ≡ true → read_on most n (drop i ds) ≡ read_on most (n * 10 + (slice_index ds i - 48)) (drop (i + 1) ds)
-next_digit most n i ds h e = at_drop_more (read_on most n) ds i 0 h ∙ read_digit most n (slice_index ds i) (drop (i + 1) ds) e
-
-pub no_digit : (most n i : ℕ) (ds : List ℕ) → i < length ds → is_ascii_digit (slice_index ds i) ≡ false → read_on most n (drop i ds) ≡ None
-no_digit most n i ds h e = at_drop_more (read_on most n) ds i 0 h ∙ read_other most n (slice_index ds i) (drop (i + 1) ds) e
-
-pub too_large : (most n i : ℕ) (ds : List ℕ) → i < length ds → is_ascii_digit (slice_index ds i) ≡ true → most < n * 10 + (slice_index ds i - 48) → read_on most n (drop i ds) ≡ None
-too_large most n i ds h e p = next_digit most n i ds h e ∙ read_past most (n * 10 + (slice_index ds i - 48)) (drop (i + 1) ds) p
-
-pub read_none : (most n : ℕ) → n ≤ most → read_on most n [] ≡ Some n
-read_none most n h = ap (λ t. cond t (Some n) None) (le-leb n most h)
-
-pub number_from : (most : ℕ) (ds : List ℕ) → (length ds ≢ 0) → number_of most ds ≡ read_on most 0 ds
-number_from most ds h =
-    ap (λ t. cond (t && (all_ascii_digits ds && nat_le (value_on 0 ds) most)) (Some (value_on 0 ds)) None) (lt-ltb 0 (length ds) (omega arith))
 
 own : IsNumeralModel (λ ds. all_ascii_digits ds ≡ true) (value_on 0)
 own = numerals_by_fold _ (search rules) value_on (search rules)
+
+each_digit : (ds : List ℕ) → list_all is_ascii_digit ds ≡ all_ascii_digits ds
+each_digit [] = refl
+each_digit (c ∷ cs) = ap (λ t. is_ascii_digit c && t) (each_digit cs)
+
+-- digits alone are text
+pub digits_text : (ds : List ℕ) → list_all is_ascii_digit ds ≡ true → IsUtf8 ds
+digits_text ds e = IsUtf8-from_ascii ds (IsAscii-from_digits ds (own.to ds (sym (each_digit ds) ∙ e)))
+
+-- a number above the largest is none
+past : (most : ℕ) (ds : List ℕ) → most < value_on 0 ds → number_of most ds ≡ None
+past most ds h =
+    cond-false (nat_lt 0 (length ds) && (all_ascii_digits ds && nat_le (value_on 0 ds) most)) (Some (value_on 0 ds)) None
+    (and_right (nat_lt 0 (length ds)) (all_ascii_digits ds && nat_le (value_on 0 ds) most)
+    (and_right (all_ascii_digits ds) (nat_le (value_on 0 ds) most) (lt-leb (value_on 0 ds) most h)))
+
+-- what `parse` reads, unless it is above the largest
+abbrev kept : ℕ → Option ℕ → Option ℕ
+kept most (Some n) = then_some (nat_le n most) n
+kept most None = None
+
+kept_is : (most n : ℕ) → kept most (Some n) ≡ cond (nat_le n most) (Some n) None
+kept_is most n = by (nat_le n most) where
+  by : (b : Bool) → then_some b n ≡ cond b (Some n) None
+  by true = refl
+  by false = refl
+
+some_number : (most n : ℕ) (ds : List ℕ) → all_ascii_digits ds ≡ true → 0 < length ds → n ≡ value_on 0 ds → kept most (Some n) ≡ number_of most ds
+some_number most n ds e h is =
+    kept_is most n ∙ ap (λ m. cond (nat_le m most) (Some m) None) is
+    ∙ sym (ap (λ t. cond (nat_lt 0 (length ds) && (t && nat_le (value_on 0 ds) most)) (Some (value_on 0 ds)) None) e
+    ∙ ap (λ t. cond (t && nat_le (value_on 0 ds) most) (Some (value_on 0 ds)) None) (lt-ltb 0 (length ds) h))
+
+no_number : (most : ℕ) (ds : List ℕ) → most < 2 ^ 64 → ((0 < length ds) × (value_on 0 ds < 2 ^ 64) → ⊥) → number_of most ds ≡ None
+no_number most [] k q = refl
+no_number most (c ∷ cs) k q = ⊎_elim (λ a. absurd (q (omega arith, a))) (λ b. past most (c ∷ cs) (omega arith)) (cases_lt (value_on 0 (c ∷ cs)) (2 ^ 64))
+
+number_parsed : {E : Type 0} (most : ℕ) (ds : List ℕ) (r : Result ℕ E) → list_all is_ascii_digit ds ≡ true → most < 2 ^ 64 → ParsesUnsigned 64 10 ds r → kept most (result_ok r) ≡ number_of most ds
+number_parsed {E = E} most ds (Ok n) e k h =
+    let d = sym (each_digit ds) ∙ e in
+    let q = parse_digits own {E = E} 64 ds (Ok n) h d in
+    some_number most n ds d q.0.0 q.1
+number_parsed {E = E} most ds (Err f) e k h =
+    let d = sym (each_digit ds) ∙ e in
+    sym (no_number most ds k (parse_digits own {E = E} 64 ds (Err f) h d))
+
+-- the answer where `parse` gives none, and where it gives n
+pub number_none : {E : Type 0} (most : ℕ) (ds bs : List ℕ) (r : Result ℕ E) → list_all is_ascii_digit ds ≡ true → most < 2 ^ 64 → ParsesUnsigned 64 10 bs r → bs ≡ ds → None ≡ result_ok r → None ≡ number_of most ds
+number_none most ds bs r e k h same is = ap (kept most) is ∙ number_parsed most ds r e k (subst (λ l. ParsesUnsigned 64 10 l r) same h)
+
+pub number_some : {E : Type 0} (most n : ℕ) (ds bs : List ℕ) (r : Result ℕ E) → list_all is_ascii_digit ds ≡ true → most < 2 ^ 64 → ParsesUnsigned 64 10 bs r → bs ≡ ds → Some n ≡ result_ok r → then_some (nat_le n most) n ≡ number_of most ds
+number_some most n ds bs r e k h same is = ap (kept most) is ∙ number_parsed most ds r e k (subst (λ l. ParsesUnsigned 64 10 l r) same h)
 
 pub decimal_digits : (n : ℕ) → n < 2 ^ 64 → all_ascii_digits (decimal n) ≡ true
 decimal_digits n h = digits_decimal own n h
