@@ -2,7 +2,7 @@
 use crate::answer::Answer;
 use crate::desk::Desk;
 use crate::failure::Failure;
-use crate::holdings::Station;
+use crate::holdings::{Holding, Station};
 use kinds::stamp::Stamp;
 use model::image::Image;
 use office::images::Published;
@@ -48,11 +48,12 @@ impl<S: Stamp, R: Copy> Desk<S, R> {
         match self.registrar.submit(self.store.lend(), job, &sheet) {
             Ok(ticket) => {
                 let number = ticket.number();
-                self.holdings.keep_ticket(name, ticket)?;
+                self.holdings.keep(name, Holding::Submitted(ticket))?;
                 Ok(Answer::Ticket(number))
             }
             Err((refusal, job)) => {
-                self.holdings.keep_job(name, Station { job, sheet })?;
+                self.holdings
+                    .keep(name, Holding::AtWork(Station { job, sheet }))?;
                 Err(refusal.into())
             }
         }
@@ -62,13 +63,13 @@ impl<S: Stamp, R: Copy> Desk<S, R> {
     fn settle(&mut self, name: &str, image: usize) -> Result<Answer<S, R>, Failure> {
         let (name, ticket) = self.holdings.take_ticket(name)?;
         let Ok(image) = image_at(&self.images, image) else {
-            self.holdings.keep_ticket(name, ticket)?;
+            self.holdings.keep(name, Holding::Submitted(ticket))?;
             return Err(Reason::NoImage.into());
         };
         match ticket.settle(image) {
             Ok(verdict) => Ok(Answer::Settled(verdict)),
             Err((refusal, ticket)) => {
-                self.holdings.keep_ticket(name, ticket)?;
+                self.holdings.keep(name, Holding::Submitted(ticket))?;
                 Err(refusal.into())
             }
         }
@@ -90,7 +91,8 @@ impl<S: Stamp, R: Copy> Desk<S, R> {
         let job = Job::open(image_at(&self.images, image)?)?;
         let standing = job.standing;
         let sheet = places(self.heap, self.blank, 16)?;
-        self.holdings.keep_job(name, Station { job, sheet })?;
+        self.holdings
+            .keep(name, Holding::AtWork(Station { job, sheet }))?;
         Ok(Answer::Stands(standing))
     }
 

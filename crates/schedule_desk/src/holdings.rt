@@ -3,7 +3,7 @@ use model::entry::Entry;
 use registrar::ticket::Ticket;
 use schedule_calls::reason::{Fault, Reason};
 use station::job::Job;
-use std::alloc::{AllocError, AllocFailed, Global};
+use std::alloc::{AllocFailed, Global};
 use std::collections::BTreeMap;
 
 // A job with its sheet.
@@ -13,11 +13,42 @@ pub struct Station<S: Copy, R: Copy> {
     pub sheet: Vec<Entry<S, R>>,
 }
 
-// The jobs and the tickets by name. A name stands for one of them at most.
+// What a name stands for: a job at work, or the ticket of a job that was submitted.
+pub(crate) enum Holding<S: Copy, R: Copy> {
+    AtWork(Station<S, R>),
+    Submitted(Ticket),
+}
+
+impl<S: Copy, R: Copy> Holding<S, R> {
+    // The job, unless it was submitted.
+    fn job(&self) -> Option<&Station<S, R>> {
+        match self {
+            Holding::AtWork(station) => Some(station),
+            Holding::Submitted(_) => None,
+        }
+    }
+
+    // The job, unless it was submitted, for a call that goes on with it.
+    fn job_mut(&mut self) -> Option<&mut Station<S, R>> {
+        match self {
+            Holding::AtWork(station) => Some(station),
+            Holding::Submitted(_) => None,
+        }
+    }
+
+    // Lets the job go, or waives the ticket, which cannot be forgotten.
+    fn let_go(self) {
+        match self {
+            Holding::AtWork(_) => {}
+            Holding::Submitted(ticket) => ticket.waive(),
+        }
+    }
+}
+
+// The jobs and the tickets by name.
 pub struct Holdings<S: Copy, R: Copy> {
     heap: Global,
-    jobs: BTreeMap<String, Station<S, R>>,
-    tickets: BTreeMap<String, Ticket>,
+    named: BTreeMap<String, Holding<S, R>>,
 }
 
 // What stands under a name; where nothing does, the reason that names it.
@@ -40,14 +71,13 @@ impl<S: Copy, R: Copy> Holdings<S, R> {
     pub fn new(heap: Global) -> Holdings<S, R> {
         Holdings {
             heap,
-            jobs: BTreeMap::new(heap),
-            tickets: BTreeMap::new(heap),
+            named: BTreeMap::new(heap),
         }
     }
 
     // The name, unless it stands.
     pub(crate) fn free(&self, name: &str) -> Result<String, Fault> {
-        let stands = self.jobs.contains_key(name) || self.tickets.contains_key(name);
+        let stands = self.named.contains_key(name);
         let name = String::from_str(self.heap, name)?;
         if stands {
             return Err(Reason::Standing(name).into());
@@ -57,64 +87,70 @@ impl<S: Copy, R: Copy> Holdings<S, R> {
 
     // The job of this name.
     pub(crate) fn job(&self, name: &str) -> Result<&Station<S, R>, Fault> {
-        standing(self.heap, self.jobs.get(name), name, Reason::NoJob)
+        let found = self.named.get(name).and_then(|holding| holding.job());
+        standing(self.heap, found, name, Reason::NoJob)
     }
 
     // The job of this name, for a call that goes on with it.
     pub(crate) fn job_mut(&mut self, name: &str) -> Result<&mut Station<S, R>, Fault> {
-        standing(self.heap, self.jobs.get_mut(name), name, Reason::NoJob)
+        let found = self
+            .named
+            .get_mut(name)
+            .and_then(|holding| holding.job_mut());
+        standing(self.heap, found, name, Reason::NoJob)
     }
 
-    // Takes the job of this name, with the name, which is free then.
+    // Takes the job of this name, with the name, which is free then. A ticket stays.
     pub(crate) fn take_job(&mut self, name: &str) -> Result<(String, Station<S, R>), Fault> {
-        standing(self.heap, self.jobs.remove_entry(name), name, Reason::NoJob)
+        let found = self.named.remove_entry(name);
+        let (taken, holding) = standing(self.heap, found, name, Reason::NoJob)?;
+        match holding {
+            Holding::AtWork(station) => Ok((taken, station)),
+            Holding::Submitted(ticket) => {
+                self.keep(taken, Holding::Submitted(ticket))?;
+                standing(self.heap, None, name, Reason::NoJob)
+            }
+        }
     }
 
-    // Takes the ticket of this name, with the name, which is free then.
+    // Takes the ticket of this name, with the name, which is free then. A job at work stays.
     pub(crate) fn take_ticket(&mut self, name: &str) -> Result<(String, Ticket), Fault> {
-        standing(
-            self.heap,
-            self.tickets.remove_entry(name),
-            name,
-            Reason::NoTicket,
-        )
+        let found = self.named.remove_entry(name);
+        let (taken, holding) = standing(self.heap, found, name, Reason::NoTicket)?;
+        match holding {
+            Holding::Submitted(ticket) => Ok((taken, ticket)),
+            Holding::AtWork(station) => {
+                self.keep(taken, Holding::AtWork(station))?;
+                standing(self.heap, None, name, Reason::NoTicket)
+            }
+        }
     }
 
-    // The name stands for this job.
-    pub(crate) fn keep_job(
-        &mut self,
-        name: String,
-        station: Station<S, R>,
-    ) -> Result<(), AllocError> {
-        self.jobs.insert(name, station)?;
-        Ok(())
-    }
-
-    // The name stands for this ticket. A ticket that finds no place is waived.
-    pub(crate) fn keep_ticket(&mut self, name: String, ticket: Ticket) -> Result<(), Fault> {
-        match self.tickets.insert(name, ticket) {
+    // The name stands for this from here on. What finds no place is let go.
+    pub(crate) fn keep(&mut self, name: String, holding: Holding<S, R>) -> Result<(), Fault> {
+        match self.named.insert(name, holding) {
             Ok(None) => Ok(()),
             Ok(Some(earlier)) => {
-                earlier.waive();
+                earlier.let_go();
                 Ok(())
             }
-            Err(AllocFailed { value: (_, ticket) }) => {
-                ticket.waive();
+            Err(
+                AllocFailed {
+                    value: (_, holding),
+                },
+            ) => {
+                holding.let_go();
                 Err(Fault::Memory)
             }
         }
     }
 
-    // Lets every job go, and waives every ticket: a ticket cannot be forgotten, so they are taken out one by one.
+    // Lets all go that stands, one by one.
     pub fn close(self) {
-        let Holdings {
-            heap: _,
-            jobs: _,
-            mut tickets,
-        } = self;
-        while let Some((_, ticket)) = tickets.pop_first() {
-            ticket.waive();
+        let Holdings { heap: _, mut named } = self;
+        while let Some((_, holding)) = named.pop_first() {
+            holding.let_go();
         }
-        tickets.destroy_empty();
+        named.destroy_empty();
     }
 }
