@@ -73,53 +73,56 @@ fn parse_put<R: Notation>(
 
 // The command that words are, or why they are none.
 pub fn parse<R: Notation>(heap: Global, words: &[&[u8]]) -> Result<Command<R>, Fault> {
-    Ok(match words {
-        [b"publish"] => Command::Make(Call::Publish),
-        [b"open", name, image] => Command::Make(Call::Open {
+    let [first, rest @ ..] = words else {
+        return Err(Reason::Command.into());
+    };
+    let form = form_of(first).ok_or(Reason::Command)?;
+    Ok(match (form, rest) {
+        (Form::Publish, []) => Command::Make(Call::Publish),
+        (Form::Open, [name, image]) => Command::Make(Call::Open {
             name: parse_name(heap, name)?,
             image: parse_index(image)?,
         }),
-        [b"look", name, record] => Command::Make(parse_look(heap, name, record, None)?),
-        [b"look", name, record, b"at", image] => {
+        (Form::Look, [name, record]) => Command::Make(parse_look(heap, name, record, None)?),
+        (Form::Look, [name, record, b"at", image]) => {
             let at = parse_index(image)?;
             Command::Make(parse_look(heap, name, record, Some(at))?)
         }
-        [b"put", name, record, value] => {
+        (Form::Put, [name, record, value]) => {
             Command::Make(parse_put(heap, name, record, value, None)?)
         }
-        [b"put", name, record, value, b"at", image] => {
+        (Form::Put, [name, record, value, b"at", image]) => {
             let at = parse_index(image)?;
             Command::Make(parse_put(heap, name, record, value, Some(at))?)
         }
-        [b"tune", name, image] => Command::Make(Call::Tune {
+        (Form::Tune, [name, image]) => Command::Make(Call::Tune {
             name: parse_name(heap, name)?,
             image: parse_index(image)?,
         }),
-        [b"submit", name] => Command::Make(Call::Submit {
+        (Form::Submit, [name]) => Command::Make(Call::Submit {
             name: parse_name(heap, name)?,
         }),
-        [b"decide"] => Command::Make(Call::Decide),
-        [b"settle", name, image] => Command::Make(Call::Settle {
+        (Form::Decide, []) => Command::Make(Call::Decide),
+        (Form::Settle, [name, image]) => Command::Make(Call::Settle {
             name: parse_name(heap, name)?,
             image: parse_index(image)?,
         }),
-        [b"waive", name] => Command::Make(Call::Waive {
+        (Form::Waive, [name]) => Command::Make(Call::Waive {
             name: parse_name(heap, name)?,
         }),
-        [b"drop", name] => Command::LetGo {
+        (Form::LetGo, [name]) => Command::LetGo {
             name: parse_name(heap, name)?,
         },
-        [b"row", record] => Command::Show(View::Row {
+        (Form::Row, [record]) => Command::Show(View::Row {
             record: parse_index(record)?,
         }),
-        [b"job", name] => Command::Show(View::Job {
+        (Form::Job, [name]) => Command::Show(View::Job {
             name: parse_name(heap, name)?,
         }),
-        [b"journal"] => Command::Show(View::Journal),
-        [b"image", number] => Command::Show(View::Image {
+        (Form::Journal, []) => Command::Show(View::Journal),
+        (Form::Image, [number]) => Command::Show(View::Image {
             number: parse_index(number)?,
         }),
-        [first, ..] => return Err(form_of(first).map_or(Reason::Command, Reason::Words).into()),
-        [] => return Err(Reason::Command.into()),
+        _ => return Err(Reason::Words(form).into()),
     })
 }

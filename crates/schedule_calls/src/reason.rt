@@ -1,5 +1,6 @@
 // Why a line is no call.
-ghost use Rattle.std.specs.Prelude.{◌≡◌};
+ghost use Rattle.std.specs.Prelude.{◌≡◌, Some};
+ghost use Rattle.schedule_calls.specs.Forms.{form_text};
 ghost use Rattle.schedule_calls.specs.declared.reason.Reason.TheVariants.{OnKinds};
 ghost use Rattle.schedule_calls.specs.declared.reason.Fault.TheVariants.{NoCall, Memory};
 
@@ -66,6 +67,8 @@ pub enum Form {
 }
 
 impl fmt::Display for Form {
+    ghost output = { λ x. Some (form_text x) };
+
     fn fmt<W: fmt::Write>(&self, f: &mut fmt::Formatter<W>) -> fmt::Result {
         f.write_str(match self {
             Form::Found => "found STAMPKIND RECORDKIND PLACES VALUE ...",
@@ -94,6 +97,7 @@ pub enum Fault {
     Memory,
 }
 
+// A derived `From` has no contract, so these are written out.
 impl From<Reason> for Fault {
     ghost from_gives = { λ reason fault. fault ≡ NoCall reason };
 
