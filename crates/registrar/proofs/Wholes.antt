@@ -1,20 +1,22 @@
 -- What each call leaves, from what its steps leave in the tables.
-use Rattle.std.proofs.Common.{◌≡◌, ℕ, ◌+◌, ◌*◌, ◌%◌, ◌<◌, ◌≤◌, true, false, ◌&&◌, List, length, take, set, replicate, None, Some, Ok, Err, Option, sym, refl, ap, ◌∙◌}
+use Rattle.std.proofs.Common.{◌≡◌, ℕ, ◌+◌, ◌*◌, ◌%◌, ◌<◌, ◌≤◌, true, false, ◌&&◌, List, length, take, set, replicate, None, Some, Ok, Err, Option, Result, sym, refl, ap, ◌∙◌, arith}
 use Rattle.std.proofs.lemmas.Bool.{and_parts, le-leb, lt-leb, eq-eqb, ne_eqb}
 use Rattle.kinds.specs.Stamps.{Order}
 use Rattle.model.specs.declared.row.Row.{Row}
 use Rattle.model.specs.declared.image.ImageRow.{ImageRow}
 use Rattle.model.specs.declared.verdict.Outcome.{Outcome}
+use Rattle.model.specs.declared.refusal.Refusal.{Refusal}
 use Rattle.model.specs.declared.refusal.Refusal.TheVariants.{WrongTables, QueueFull, CountEnded}
 use Rattle.model.specs.Tables.{lawful_size, sized, laid_from}
 use Rattle.model.specs.declared.entry.Entry.{Entry}
 use Rattle.model.specs.Sheets.{beyond}
 use Rattle.station.specs.declared.job.Job.{Job}
 use Rattle.station.specs.Station.{Image, is_shut}
+use Rattle.station.specs.Heard.{on_unless}
 use Rattle.registrar.specs.declared.queue.Submission.{Submission}
 use Rattle.registrar.specs.declared.ticket.Ticket.{Ticket}
 use Rattle.registrar.specs.declared.registrar.Registrar.{Registrar}
-use Rattle.registrar.specs.Registry.{Registry, registry_sized, tables_sized, founded_rows, found, shown_rows, publish, submit}
+use Rattle.registrar.specs.Registry.{Registry, Settled, unless, submit_refused, submitted, registry_sized, tables_sized, founded_rows, found, shown_rows, publish, submit}
 use Rattle.registrar.specs.Calls.{registry_of, no_numbers, founded_as, published_as, image_with, handed_as, handed_in, station_of}
 
 -- what a clone of none is, where no value is one
@@ -53,17 +55,24 @@ module _ {S R : Type 0} (g : Registry S R) (i : Image S R) where
       (λ j. published_as (Ok (g.own.cycle + 1)) (registry_of own_after g.rows (b j) g.opening g.queue g.queued g.outcomes g.heads g.lines) (image_with (record { records = g.own.records; number = g.own.cycle + 1; count = length (n j) }) (a j) ((c ∙ ap (λ t. laid_from 0 t i.outcomes) n) j)))
       ∙ sym (simp (h, f, lt-leb _ _ l))
 
--- Submit: a sheet of another length, and the job at the end of the queue.
-module _ {S R : Type 0} (g : Registry S R) (j : Job S) (sheet : List (Entry S R)) (z : registry_sized g ≡ true) where
-  pub submit_sheet : (length sheet ≡ 16 → ⊥) → handed_as (Err (WrongTables, j)) g ≡ handed_in j (submit g (station_of j sheet))
-  submit_sheet n = simp (z, ne_eqb _ _ n)
+-- Submit: refused, or the job at the end of the queue.
+module _ {S R : Type 0} (g : Registry S R) (j : Job S) (sheet : List (Entry S R)) where
+  abbrev told : Result (Unit {0}) Refusal
+  told = on_unless (submit_refused g (station_of j sheet))
 
-  module _ (n : length sheet ≡ 16) (live : is_shut j.standing ≡ false) {entries : List (Entry S R)} (e : entries ≡ take j.count sheet) (far : beyond g.own.records entries ≡ false) where
-    pub submit_full : 16 ≤ g.own.waiting → handed_as (Err (QueueFull, j)) g ≡ handed_in j (submit g (station_of j sheet))
-    submit_full w = let near : beyond g.own.records (take j.count sheet) ≡ false = rw e at far in simp (z, eq-eqb _ _ n, live, near, le-leb _ _ w)
+  module _ (z : registry_sized g ≡ true) where
+    pub submit_sheet : (length sheet ≡ 16 → ⊥) → Err WrongTables ≡ told
+    submit_sheet n = simp (z, ne_eqb _ _ n)
 
-    pub submit_ended : g.own.waiting < 16 → 4294967295 ≤ g.own.tickets → handed_as (Err (CountEnded, j)) g ≡ handed_in j (submit g (station_of j sheet))
-    submit_ended w t = let near : beyond g.own.records (take j.count sheet) ≡ false = rw e at far in simp (z, eq-eqb _ _ n, live, near, lt-leb _ _ w, le-leb _ _ t)
+    module _ (n : length sheet ≡ 16) (live : is_shut j.standing ≡ false) {entries : List (Entry S R)} (e : entries ≡ take j.count sheet) (far : beyond g.own.records entries ≡ false) where
+      pub submit_full : 16 ≤ g.own.waiting → Err QueueFull ≡ told
+      submit_full w = let near : beyond g.own.records (take j.count sheet) ≡ false = rw e at far in simp (z, eq-eqb _ _ n, live, near, le-leb _ _ w)
+
+      pub submit_ended : g.own.waiting < 16 → 4294967295 ≤ g.own.tickets → Err CountEnded ≡ told
+      submit_ended w t = let near : beyond g.own.records (take j.count sheet) ≡ false = rw e at far in simp (z, eq-eqb _ _ n, live, near, lt-leb _ _ w, le-leb _ _ t)
+
+      pub submit_ready : g.own.waiting < 16 → g.own.tickets < 4294967295 → Ok tt ≡ told
+      submit_ready w t = let near : beyond g.own.records (take j.count sheet) ≡ false = rw e at far in simp (z, eq-eqb _ _ n, live, near, lt-leb _ _ w, lt-leb _ _ t)
 
   abbrev own_submitted : Registrar
   own_submitted = record { records = g.own.records; cycle = g.own.cycle; tickets = g.own.tickets + 1; oldest = g.own.oldest; waiting = g.own.waiting + 1; outcomes = g.own.outcomes; jobs = g.own.jobs }
@@ -71,17 +80,27 @@ module _ {S R : Type 0} (g : Registry S R) (j : Job S) (sheet : List (Entry S R)
   abbrev submission_of : List (Entry S R) → Submission S
   submission_of es = record { ticket = g.own.tickets + 1; lower = j.lower; upper = j.upper; count = length es }
 
-  pub submit_whole : length sheet ≡ 16 → is_shut j.standing ≡ false
-      → {entries : List (Entry S R)} → entries ≡ take j.count sheet → beyond g.own.records entries ≡ false → g.own.waiting < 16 → g.own.tickets < 4294967295
+  pub submit_stops : (r : Refusal) → Err r ≡ told → handed_as (Err (r, j)) g ≡ handed_in j (submit g (station_of j sheet))
+  submit_stops r h = by_refusal (submit_refused g (station_of j sheet)) h
+    where
+      by_refusal : (o : Option Refusal) → Err r ≡ on_unless o → handed_as (Err (r, j)) g ≡ handed_in j (unless o g (record { answer = Ok (g.own.tickets + 1); registry = submitted g (station_of j sheet) }))
+      by_refusal None e = let q : ◌≡◌ {A = ℕ} 0 1 = cc in absurd (omega arith)
+      by_refusal (Some f) e = let q : r ≡ f = cc in ap (λ x. handed_as (Err (x, j)) g) q
+
+  goes_on : (o : Option Refusal) (s : Settled S R ℕ) → Ok tt ≡ on_unless o → s ≡ unless o g s
+  goes_on None s e = refl
+  goes_on (Some f) s e = let q : ◌≡◌ {A = ℕ} 0 1 = cc in absurd (omega arith)
+
+  pub submit_whole : Ok tt ≡ told
+      → {entries : List (Entry S R)} → entries ≡ take j.count sheet
       → {ticket : Ticket} → ticket.number ≡ g.own.tickets + 1 → {place : ℕ} → place ≡ (g.own.oldest + g.own.waiting) % 16
       → {queue : List (Submission S)} → queue ≡ set g.queue place (submission_of entries) → {queued : List (Entry S R)} → queued ≡ laid_from (16 * place) entries g.queued
       → handed_as (Ok ticket) (registry_of own_submitted g.rows g.firsts g.opening queue queued g.outcomes g.heads g.lines)
       ≡ handed_in j (submit g (station_of j sheet))
-  submit_whole n live {entries} e far w t {ticket} number {place} p {queue} a {queued} b =
+  submit_whole ready {entries} e {ticket} number {place} p {queue} a {queued} b =
       let es = take j.count sheet in
       let at = (g.own.oldest + g.own.waiting) % 16 in
-      let far-sheet : beyond g.own.records es ≡ false = rw e at far in
       let queue-new : queue ≡ set g.queue at (submission_of es) = a ∙ (λ i. set g.queue (p i) (submission_of (e i))) in
       let queued-new : queued ≡ laid_from (16 * at) es g.queued = b ∙ (λ i. laid_from (16 * p i) (e i) g.queued) in
       (λ i. handed_as (Ok (record { number = number i })) (registry_of own_submitted g.rows g.firsts g.opening (queue-new i) (queued-new i) g.outcomes g.heads g.lines))
-      ∙ sym (simp (z, eq-eqb _ _ n, live, far-sheet, lt-leb _ _ w, lt-leb _ _ t))
+      ∙ ap (handed_in j) (goes_on (submit_refused g (station_of j sheet)) _ ready)

@@ -1,30 +1,29 @@
-use Rattle.std.proofs.Common.{length, sym, refl, ap, ◌∙◌, arith, length-take}
+use Rattle.std.proofs.Common.{length, refl, ap, ◌∙◌, arith, length-take}
 use Rattle.registrar.specs.Calls.{registry_in}
-use Rattle.registrar.proofs.Wholes.{submit_sheet, submit_full, submit_ended, submit_whole}
+use Rattle.registrar.proofs.Wholes.{submit_stops, submit_whole}
 use Rattle.registrar.proofs.registrar.Registrar.submit.Goals as goal
 
-pub returns-then-sheet-ne16 : goal.returns-then-sheet-ne16
-returns-then-sheet-ne16 g c =
-    submit_sheet (registry_in c.args.self.now c.args.tables) c.args.job c.args.sheet.now (sym c.if-not-fit.ensures.told) c.if-sheet-ne16.true
+pub returns-in-Err : goal.returns-in-Err
+returns-in-Err g c =
+    submit_stops (registry_in c.args.self.now c.args.tables) c.args.job c.args.sheet.now c.in-Err.refusal c.in-Err.ensures.told
 
-pub returns-then-self-ge16 : goal.returns-then-self-ge16
-returns-then-self-ge16 g c =
-    submit_full (registry_in c.args.self.now c.args.tables) c.args.job c.args.sheet.now (sym c.if-not-fit.ensures.told)
-    c.if-sheet-ne16.false (sym c.if-is_shut.ensures) c.front-entries.ensures (sym c.if-beyond.ensures) c.if-self-ge16.true
+pub next_place-place-requires : goal.next_place-place-requires
+next_place-place-requires g c = let counts = c.in_default.ensures.counts refl in omega arith
 
-pub returns-then-self : goal.returns-then-self
-returns-then-self g c =
-    submit_ended (registry_in c.args.self.now c.args.tables) c.args.job c.args.sheet.now (sym c.if-not-fit.ensures.told)
-    c.if-sheet-ne16.false (sym c.if-is_shut.ensures) c.front-entries.ensures (sym c.if-beyond.ensures) c.if-self-ge16.false (omega arith)
+pub overflow_add-self : goal.overflow_add-self
+overflow_add-self g c = let counts = c.in_default.ensures.counts refl in omega arith
+
+pub overflow_add-self-2 : goal.overflow_add-self-2
+overflow_add-self-2 g c = let counts = c.in_default.ensures.counts refl in omega arith
 
 pub lay-requires : goal.lay-requires
 lay-requires g c =
-    let fits = c.if-not-fit.ensures.lengths refl in
+    let fits = c.in_default.ensures.lengths refl in
+    let lengths = fits.0 in
     let n = ap length c.front-entries.ensures ∙ length-take c.args.job.count c.args.sheet.now in
     omega arith
 
 pub returns : goal.returns
 returns g c =
-    submit_whole (registry_in c.args.self.now c.args.tables) c.args.job c.args.sheet.now (sym c.if-not-fit.ensures.told)
-    c.if-sheet-ne16.false (sym c.if-is_shut.ensures) c.front-entries.ensures (sym c.if-beyond.ensures) (omega arith) (omega arith)
-    c.new.ensures c.next_place-place.ensures.place c.store.ensures c.lay.ensures
+    submit_whole (registry_in c.args.self.now c.args.tables) c.args.job c.args.sheet.now c.in_default.ensures.told
+    c.front-entries.ensures c.new.ensures c.next_place-place.ensures.place c.store.ensures c.lay.ensures
