@@ -62,9 +62,12 @@ impl<S: Stamp, R: Copy> Desk<S, R> {
     // Settles a ticket, which frees its name.
     fn settle(&mut self, name: &str, image: usize) -> Result<Answer<S, R>, Failure> {
         let (name, ticket) = self.holdings.take_ticket(name)?;
-        let Ok(image) = image_at(&self.images, image) else {
-            self.holdings.keep(name, Holding::Submitted(ticket))?;
-            return Err(Reason::NoImage.into());
+        let image = match image_at(&self.images, image) {
+            Ok(image) => image,
+            Err(reason) => {
+                self.holdings.keep(name, Holding::Submitted(ticket))?;
+                return Err(reason.into());
+            }
         };
         match ticket.settle(image) {
             Ok(verdict) => Ok(Answer::Settled(verdict)),
@@ -104,8 +107,7 @@ impl<S: Stamp, R: Copy> Desk<S, R> {
         at: Option<usize>,
     ) -> Result<Answer<S, R>, Failure> {
         let station = self.holdings.job_mut(name)?;
-        let at = at.unwrap_or(station.job.image as usize);
-        let image = image_at(&self.images, at)?;
+        let image = image_at(&self.images, station.image(at))?;
         let value = station.job.look(&mut station.sheet, image, record)?;
         Ok(Answer::Value(value))
     }
@@ -119,8 +121,7 @@ impl<S: Stamp, R: Copy> Desk<S, R> {
         at: Option<usize>,
     ) -> Result<Answer<S, R>, Failure> {
         let station = self.holdings.job_mut(name)?;
-        let at = at.unwrap_or(station.job.image as usize);
-        let image = image_at(&self.images, at)?;
+        let image = image_at(&self.images, station.image(at))?;
         station.job.put(&mut station.sheet, image, record, value)?;
         Ok(Answer::Done)
     }

@@ -15,6 +15,7 @@ pub enum Failure {
     Ended(Fault),
 }
 
+// A derived `From` has no contract, so these are written out.
 impl From<Refusal> for Failure {
     ghost from_gives = { λ refusal failure. failure ≡ Refused refusal };
 

@@ -13,6 +13,13 @@ pub struct Station<S: Copy, R: Copy> {
     pub sheet: Vec<Entry<S, R>>,
 }
 
+impl<S: Copy, R: Copy> Station<S, R> {
+    // The number of the image that is named, or else of the one at which the job stands.
+    pub(crate) fn image(&self, named: Option<usize>) -> usize {
+        named.unwrap_or(self.job.image as usize)
+    }
+}
+
 // What a name stands for: a job at work, or the ticket of a job that was submitted.
 pub(crate) enum Holding<S: Copy, R: Copy> {
     AtWork(Station<S, R>),

@@ -13,7 +13,7 @@ use std::fmt;
 use std::fmt::Write;
 
 // How many calls a run made, and how many of them were refused.
-#[derive(Clone, Copy)]
+#[derive(Clone, Copy, Default)]
 pub struct Tally {
     pub calls: usize,
     pub refused: usize,
@@ -43,10 +43,7 @@ impl Log {
     pub fn new(heap: Global) -> Log {
         Log {
             text: String::new(heap),
-            tally: Tally {
-                calls: 0,
-                refused: 0,
-            },
+            tally: Tally::default(),
         }
     }
 

@@ -63,18 +63,14 @@ fn run_lines(session: &mut Session, input: &[u8]) -> Result<(), Stop> {
     Ok(())
 }
 
-// The last line of a run that came to its end, or of one that stopped.
-fn finish(
-    log: &mut Log,
-    ended: Result<(), Stop>,
-    jobs: Option<usize>,
-) -> Result<Result<(), Stopped>, Fault> {
-    match ended {
+// The printout of a run, with the last line of one that came to its end, or of one that stopped.
+fn finish(mut log: Log, ended: Result<(), Stop>, jobs: Option<usize>) -> Result<Printout, Fault> {
+    let ending = match ended {
         Ok(()) => {
             if let Some(jobs) = jobs {
                 log.ended(jobs)?;
             }
-            Ok(Ok(()))
+            Ok(())
         }
         Err(
             Stop {
@@ -83,15 +79,14 @@ fn finish(
             },
         ) => {
             log.no_call(line, &reason)?;
-            Ok(Err(Stopped { line }))
+            Err(Stopped { line })
         }
-        Err(
-            Stop {
-                line: _,
-                fault: Fault::Memory,
-            },
-        ) => Err(Fault::Memory),
-    }
+        Err(Stop { line: _, fault }) => return Err(fault),
+    };
+    Ok(Printout {
+        text: log.text,
+        ending,
+    })
 }
 
 // The printout of a schedule; of an empty one, the help.
@@ -104,10 +99,6 @@ pub fn run(heap: Global, input: &[u8]) -> Result<Printout, AllocError> {
     }
     let mut session = Session::new(heap);
     let ended = run_lines(&mut session, input);
-    let (mut log, jobs) = session.close();
-    let ending = finish(&mut log, ended, jobs).map_err(|_| AllocError)?;
-    Ok(Printout {
-        text: log.text,
-        ending,
-    })
+    let (log, jobs) = session.close();
+    finish(log, ended, jobs).map_err(|_| AllocError)
 }

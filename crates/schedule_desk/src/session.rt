@@ -51,6 +51,7 @@ impl<S: Stamp + Notation, R: Notation> Desk<S, R> {
         let command = parse(self.heap, words)?;
         match &command {
             Command::Make(call) => {
+                // The closure of a `map_err` could not leave this function with `?`.
                 let said = match self.make(call) {
                     Ok(answer) => Ok(answer),
                     Err(failure) => Err(failure.refusal()?),
@@ -181,7 +182,7 @@ impl Session {
 
 impl Session {
     // A session before its founding.
-    pub(crate) fn new(heap: Global) -> Session {
+    pub fn new(heap: Global) -> Session {
         Session {
             heap,
             log: Log::new(heap),
