@@ -129,12 +129,3 @@ impl<T: Drop> From<AllocFailed<T>> for Fault {
         Fault::Memory
     }
 }
-
-// A string that cannot be written to has found no memory.
-impl From<fmt::Error> for Fault {
-    ghost from_gives = { λ _ fault. fault ≡ Memory };
-
-    fn from(_e: fmt::Error) -> Fault {
-        Fault::Memory
-    }
-}
