@@ -106,10 +106,7 @@ impl<S: Notation, R: Notation> fmt::Display for Said<S, R> {
     fn fmt<W: fmt::Write>(&self, f: &mut fmt::Formatter<W>) -> fmt::Result {
         match self.0 {
             Ok(answer) => write!(f, "{answer}"),
-            Err(refusal) => {
-                let number = u8::from(refusal);
-                write!(f, "refused {number}")
-            }
+            Err(refusal) => write!(f, "{refusal}"),
         }
     }
 }
