@@ -10,7 +10,7 @@ use crate::heading::Heading;
 use crate::rows::form;
 use crate::whole::Archive;
 
-// The number in the 4 bytes at a place.
+// The number in the 4 bytes at a place. It is cast, since a `u32` has no `From` for a `usize`.
 pub(crate) fn number_at(bytes: &[u8], at: usize) -> usize
     requires { at + 4 ≤ length bytes.now }
     ensures value { result ≡ number4 (part bytes.now at 4) }

@@ -15,7 +15,7 @@ pub struct Heading {
     pub jobs: usize,
 }
 
-// Reads the number of records and that of jobs, behind mark and kinds.
+// Reads the number of records and that of jobs, behind mark and kinds. The second is cast, as in the directory.
 fn sizes(rest: &[u8]) -> Result<Heading, Fault>
     ensures answer { result ≡ read_sizes rest.now }
     ensures within { IfOk result Limited }

@@ -55,7 +55,7 @@ impl<S: Stamp, R: Record> Part<Entry<S, R>> for Puts {
     }
 }
 
-// How many looks and how many puts some entries have.
+// How many looks and how many puts some entries have: at most 16, so the casts lose nothing.
 fn counts<S: Stamp, R: Record>(entries: &[Entry<S, R>]) -> (u8, u8)
     requires { length entries.now ≤ 16 }
     ensures looks { result.0 ≡ look_count entries.now }

@@ -36,7 +36,8 @@ pub fn capped(word: &[u8], most: u64) -> Result<u64, Reason>
     Ok(number(word, most).unwrap_or(most))
 }
 
-// A number of the library's, or the largest.
+// A number of the library's, or the largest. The cast loses nothing, and `try_from` would want a reason for a case
+// that cannot come.
 pub fn parse_index(word: &[u8]) -> Result<usize, Reason> {
     Ok(capped(word, u64::MAX)? as usize)
 }

@@ -14,7 +14,8 @@ pub struct Station<S: Copy, R: Copy> {
 }
 
 impl<S: Copy, R: Copy> Station<S, R> {
-    // The number of the image that is named, or else of the one at which the job stands.
+    // The number of the image that is named, or else of the one at which the job stands. It is cast, since a `u32`
+    // has no `From` for a `usize`.
     pub(crate) fn image(&self, named: Option<usize>) -> usize {
         named.unwrap_or(self.job.image as usize)
     }

@@ -22,7 +22,7 @@ use std::alloc::Global;
 use std::fmt::Write;
 use std::mem;
 
-// The largest number of places that is handed on.
+// The largest number of places that is handed on, so that its cast loses nothing.
 const MOST_PLACES: u64 = 4097;
 
 // A register with stamps of one kind, by its record kind.
