@@ -36,7 +36,8 @@ impl<S: Copy, R: Copy> Holding<S, R> {
         }
     }
 
-    // The job, unless it was submitted, for a call that goes on with it.
+    // The job, unless it was submitted, for a call that goes on with it. It stands beside `job` as `get_mut` does
+    // beside `get`: no function lends both ways.
     fn job_mut(&mut self) -> Option<&mut Station<S, R>> {
         match self {
             Holding::AtWork(station) => Some(station),
@@ -99,7 +100,7 @@ impl<S: Copy, R: Copy> Holdings<S, R> {
         standing(self.heap, found, name, Reason::NoJob)
     }
 
-    // The job of this name, for a call that goes on with it.
+    // The job of this name, for a call that goes on with it: `job` again, through a `&mut`.
     pub(crate) fn job_mut(&mut self, name: &str) -> Result<&mut Station<S, R>, Fault> {
         let found = self
             .named
@@ -121,7 +122,8 @@ impl<S: Copy, R: Copy> Holdings<S, R> {
         }
     }
 
-    // Takes the ticket of this name, with the name, which is free then. A job at work stays.
+    // Takes the ticket of this name, with the name, which is free then. A job at work stays. It is `take_job` with
+    // the cases turned round: one function for both would have to be handed the cases and the reason.
     pub(crate) fn take_ticket(&mut self, name: &str) -> Result<(String, Ticket), Fault> {
         let found = self.named.remove_entry(name);
         let (taken, holding) = standing(self.heap, found, name, Reason::NoTicket)?;
