@@ -96,7 +96,8 @@ fn item_no_forms(rt: HostRuntime) {
     }
 }
 
-// Each case with each of its seven zero bytes, those beside the tag and the data, set to 1.
+// Each case with each of its seven zero bytes, those beside the tag and the data, set to 1. One range with a test,
+// since of a chain of two it is not proved that its places lie in the form.
 #[test]
 fn item_zero_bytes(rt: HostRuntime) {
     for form in [
@@ -105,10 +106,12 @@ fn item_zero_bytes(rt: HostRuntime) {
         [2, 0, 0, 0, 1, 2, 3, 4, 0, 0, 0, 0],
     ] {
         assert!(rt; Item::from_bytes(form).is_some());
-        for at in (1..4).chain(8..12) {
-            let mut bytes = form;
-            bytes[at] = 1;
-            assert!(rt; Item::from_bytes(bytes).is_none());
+        for at in 1..12 {
+            if at < 4 || 8 <= at {
+                let mut bytes = form;
+                bytes[at] = 1;
+                assert!(rt; Item::from_bytes(bytes).is_none());
+            }
         }
     }
 }
