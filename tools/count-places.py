@@ -11,25 +11,12 @@ listing = '--list' in sys.argv
 commits = [a for a in sys.argv[1:] if not a.startswith('--')]
 
 
-def sources():
-    if commits:
-        names = subprocess.run(['git', 'ls-tree', '-r', '--name-only', commits[0], 'crates'], capture_output=True, text=True, check=True).stdout.split()
-    else:
-        names = subprocess.run(['git', 'ls-files', 'crates'], capture_output=True, text=True, check=True).stdout.split()
-    for name in sorted(names):
-        if re.fullmatch(r'crates/\w+/src/.*\.rt', name):
-            if commits:
-                yield name, subprocess.run(['git', 'show', f'{commits[0]}:{name}'], capture_output=True, text=True, check=True).stdout
-            else:
-                yield name, open(name).read()
-
-
-def proofs():
+def files(kind):
+    """(path, text) of each file whose path fits, of the commit that is named or of this checkout."""
     command = ['git', 'ls-tree', '-r', '--name-only', commits[0], 'crates'] if commits else ['git', 'ls-files', 'crates']
-    names = subprocess.run(command, capture_output=True, text=True, check=True).stdout.split()
-    for name in names:
-        if re.fullmatch(r'crates/\w+/proofs/.*\.antt', name):
-            yield name, subprocess.run(['git', 'show', f'{commits[0]}:{name}'], capture_output=True, text=True).stdout if commits else open(name).read()
+    for name in sorted(subprocess.run(command, capture_output=True, text=True, check=True).stdout.split()):
+        if re.fullmatch(kind, name):
+            yield name, subprocess.run(['git', 'show', f'{commits[0]}:{name}'], capture_output=True, text=True, check=True).stdout if commits else open(name).read()
 
 
 def functions(text):
@@ -39,10 +26,9 @@ def functions(text):
         if not end:
             continue
         whole = text[m.start():end.end()]
-        cut = re.search(rf'(?:^{m.group(1)}\{{|\{{)\n', whole, re.M)
-        if not cut:
-            continue
         at = re.search(rf'^{m.group(1)}\{{$|\{{$', whole, re.M)
+        if not at:
+            continue
         yield text[:m.start()].count('\n') + 1, m.group(2), whole[:at.start()], whole[at.end():]
 
 
@@ -60,11 +46,29 @@ def shape(body):
     return tuple(out)
 
 
+# what a place looks like
+PATTERNS = [
+    ('1 nested', r'Result<Result<|Option<Option<'),
+    ('1 flag', r'^ +(?:pub )?\w+: bool,'),
+    ('1 number', r'fn (?:number|numbered|tag|code)\b'),
+    ('3 for over numbers', r'for \w+ in [^{\n]*\.\.'),
+    ('3 while', r'\bwhile\b[^{\n]*'),
+    ('3 counter by hand', r'^ +\w+ \+= (?:1|step);'),
+    ('4 order by match', r'match \w+(?:\.\w+)*\.compare\([^{]*\{'),
+    ('4 case to a literal', r'=> (?:b?"[^"]*"|\d+),\n'),
+    ('4 order by hand', r'Ordering::(?:Less|Equal|Greater)\n'),
+    ('4 cast', r' as (?:u8|u16|u32|u64|usize)\b'),
+    ('6 count beside a table', r'^ +(?:pub )?(?:count|\w+_count): usize,'),
+    ('6 buffer', r'= \[0(?:u8)?; \d+\]'),
+    ('7 word by word', r'\bis_word\('),
+    ('7 else if', r'else if'),
+]
+
 places = collections.defaultdict(list)
 alike = collections.defaultdict(list)
 facts = collections.defaultdict(set)
 groups = collections.defaultdict(set)
-for name, text in sources():
+for name, text in files(r'crates/\w+/src/.*\.rt'):
     def put(point, at, what):
         places[point].append((name, text[:at].count('\n') + 1, what))
     code = re.sub(r'//.*', lambda m: ' ' * len(m.group()), text)
@@ -73,36 +77,9 @@ for name, text in sources():
         bare, full = [c for c in cases if c[2] == ','], [c for c in cases if c[2] != ',']
         if bare and full:
             put('1 enum with bare and full cases', m.start(), f'{m.group(1)}: {len(bare)} bare, {len(full)} full')
-    for m in re.finditer(r'Result<Result<|Option<Option<', code):
-        put('1 nested', m.start(), m.group())
-    for m in re.finditer(r'^ +(?:pub )?(\w+): bool,', code, re.M):
-        put('1 flag', m.start(), m.group(1))
-    for m in re.finditer(r'fn (number|numbered|tag|code)\b', code):
-        put('1 number', m.start(), m.group())
-    for m in re.finditer(r'for \w+ in [^{\n]*\.\.', code):
-        put('3 for over numbers', m.start(), m.group())
-    for m in re.finditer(r'\bwhile\b[^{\n]*', code):
-        put('3 while', m.start(), m.group())
-    for m in re.finditer(r'for .* in .*\{\n(?:.*\n)*?.*?(\w+) \+= .*', code):
-        pass
-    for m in re.finditer(r'^ +(\w+) (\+= (?:1|step);)', code, re.M):
-        put('3 counter by hand', m.start(), m.group(1) + ' ' + m.group(2))
-    for m in re.finditer(r'match \w+(?:\.\w+)*\.compare\([^{]*\{', code):
-        put('4 order by match', m.start(), m.group())
-    for m in re.finditer(r'=> (?:b?"[^"]*"|\d+),\n', code):
-        put('4 case to a literal', m.start(), m.group().strip())
-    for m in re.finditer(r'Ordering::(?:Less|Equal|Greater)\n', code):
-        put('4 order by hand', m.start(), m.group().strip())
-    for m in re.finditer(r' as (?:u8|u16|u32|u64|usize)\b', code):
-        put('4 cast', m.start(), m.group())
-    for m in re.finditer(r'^ +(?:pub )?(count|\w+_count): usize,', code, re.M):
-        put('6 count beside a table', m.start(), m.group().strip())
-    for m in re.finditer(r'= \[0(?:u8)?; \d+\]', code):
-        put('6 buffer', m.start(), m.group())
-    for m in re.finditer(r'\bis_word\(', code):
-        put('7 word by word', m.start(), m.group())
-    for m in re.finditer(r'else if', code):
-        put('7 else if', m.start(), m.group())
+    for point, pattern in PATTERNS:
+        for m in re.finditer(pattern, code, re.M):
+            put(point, m.start(), m.group().strip())
     for line, fn, head, body in functions(text):
         s = shape(body)
         if len(s) >= 14:
@@ -130,7 +107,7 @@ for group, where in groups.items():
 
 answers = collections.Counter()
 lines = collections.Counter()
-for name, text in proofs():
+for name, text in files(r'crates/\w+/proofs/.*\.antt'):
     crate = name.split('/')[1]
     answers[crate] += 1
     lines[crate] += text.count('\n')
