@@ -1,0 +1,3 @@
+// Reading back: what is laid down of a run is accepted, and states what was laid down.
+
+#![tactic(auto)]
