@@ -3,4 +3,3 @@ pub mod Runs
 pub mod Account
 pub mod Promises
 pub mod HandOver
-pub mod Cases

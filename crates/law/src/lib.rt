@@ -3,5 +3,4 @@
 #![tactic(auto)]
 
 pub mod accounts;
-pub mod cases;
 pub mod handover;

@@ -1,12 +1,14 @@
--- The worked cases: picks, written forms, and runs of whole stamps on a register of two records.
-use Rattle.std.specs.Prelude.{◌≡◌, ℕ, false, List, [], ◌∷◌, ◌++◌, replicate, Some, None, Option}
+-- The worked cases: picks, written forms, runs of whole stamps on a register of two records, and the archive of a small register.
+use Rattle.std.specs.Prelude.{◌≡◌, ℕ, ◌+◌, ◌*◌, false, List, [], ◌∷◌, ◌++◌, replicate, length, Some, None, Ok, Option}
 use Rattle.std.specs.Option.{option_map}
 use Rattle.kinds.specs.Whole.{whole, whole_kind}
 use Rattle.kinds.specs.Volume.{volume_page, volume_kind}
 use Rattle.kinds.specs.Card.{card_kind}
 use Rattle.kinds.specs.Item.{item_kind}
 use Rattle.kinds.specs.declared.whole.Whole.{Whole}
-use Rattle.kinds.specs.declared.card.Unit.TheVariants.{Metre, Inch}
+use Rattle.kinds.specs.declared.card.Card.{Card}
+use Rattle.kinds.specs.declared.card.Unit.{Unit as DrawnIn}
+use Rattle.kinds.specs.declared.card.Unit.TheVariants.{Millimetre, Centimetre, Metre, Inch}
 use Rattle.kinds.specs.declared.item.Item.TheVariants.{Solid, SubAssembly}
 use Rattle.model.specs.declared.entry.Entry.{Entry}
 use Rattle.model.specs.declared.verdict.Outcome.{Outcome}
@@ -15,7 +17,11 @@ use Rattle.model.specs.declared.refusal.Refusal.TheVariants.{NoRoom}
 use Rattle.station.specs.declared.job.Standing.TheVariants.{Live}
 use Rattle.station.specs.Station.{Image, Station}
 use Rattle.registrar.specs.Registry.{Registry}
+use Rattle.law.specs.Daybook.{AcceptedJob}
 use Rattle.law.specs.Runs.{Call, opens, looks, puts, tunes, submits, decides, publishes, Answer, refused, done, shown, stands, ticket, outcome, image, Run, next, run, step, start}
+use Rattle.archive.specs.Lengths.{listed_length}
+use Rattle.archive.specs.Journal.{archive_bytes}
+use Rattle.archive.specs.Rule.{inspected}
 
 -- tables with some content, for a register of two records and a journal of eight places
 abbrev zero_stamp : Whole
@@ -74,6 +80,25 @@ later_put n = opens 1 n blank_sheet ∷ puts 1 n 0 5 ∷ submits 1 ∷ decides �
 
 abbrev decided_last : List (Call Whole ℕ)
 decided_last = submits 0 ∷ decides ∷ []
+
+-- a register of two cards, and one job that saw the first and put a new one there
+abbrev card : ℕ → DrawnIn → ℕ → Card
+card revision unit mass = record { revision = revision; unit = unit; mass = mass }
+
+abbrev two_cards : List Card
+two_cards = card 1 Millimetre 10 ∷ card 2 Centimetre 20 ∷ []
+
+abbrev one_job : AcceptedJob Whole Card
+one_job =
+    record {
+      stamp = whole 65536;
+      ticket = 1;
+      looks = record { number = 0; saw = record { value = card 1 Millimetre 10; stamp = zero_stamp } } ∷ [];
+      puts = record { number = 0; value = card 7 Millimetre 11 } ∷ [];
+    }
+
+abbrev small_archive : List ℕ
+small_archive = archive_bytes whole_kind.order card_kind two_cards (one_job ∷ [])
 
 pub record WorkedCases : Type 0 where
   pub between : whole_kind.pick (whole 5) (Some (whole 7)) ≡ Some (whole 6)
@@ -135,3 +160,20 @@ pub record WorkedCases : Type 0 where
       ≡ image 1 ∷ done ∷ shown 10 ∷ done ∷ done ∷ ticket 1 ∷ accepted 1 65536 ∷ image 2 ∷ done ∷ done ∷ ticket 2 ∷ accepted 2 131072
       ∷ image 3 ∷ done ∷ done ∷ ticket 3 ∷ accepted 3 196608 ∷ image 4 ∷ done ∷ done ∷ ticket 4 ∷ accepted 4 262144 ∷ image 5
       ∷ ticket 5 ∷ outcome (record { ticket = 5; verdict = Gone }) ∷ []
+  -- The lengths of blocks in their table: no look and no put, two looks and one put, sixteen of each.
+  pub length_of_none : listed_length (17 * 0 + 0) ≡ 16
+  pub length_of_three : listed_length (17 * 2 + 1) ≡ 74
+  pub length_of_most : listed_length (17 * 16 + 16) ≡ 592
+  -- Two cards and one job with a look and a put: the pairs 28, 24 and 52, 52 in 104 bytes, which are sound.
+  pub small_length : length small_archive ≡ 104
+  pub small_bytes :
+      small_archive
+      ≡ 65 ∷ 83 ∷ 74 ∷ 49 ∷ 1 ∷ 1 ∷ 0 ∷ 2 ∷ 0 ∷ 0 ∷ 0 ∷ 1
+      ∷ 0 ∷ 0 ∷ 0 ∷ 28 ∷ 0 ∷ 0 ∷ 0 ∷ 24
+      ∷ 0 ∷ 0 ∷ 0 ∷ 52 ∷ 0 ∷ 0 ∷ 0 ∷ 52
+      ∷ 0 ∷ 0 ∷ 0 ∷ 1 ∷ 0 ∷ 0 ∷ 0 ∷ 0 ∷ 0 ∷ 0 ∷ 0 ∷ 10
+      ∷ 0 ∷ 0 ∷ 0 ∷ 2 ∷ 1 ∷ 0 ∷ 0 ∷ 0 ∷ 0 ∷ 0 ∷ 0 ∷ 20
+      ∷ 0 ∷ 0 ∷ 0 ∷ 0 ∷ 0 ∷ 1 ∷ 0 ∷ 0 ∷ 0 ∷ 0 ∷ 0 ∷ 1 ∷ 1 ∷ 1 ∷ 0 ∷ 0
+      ∷ 0 ∷ 0 ∷ 0 ∷ 0 ∷ 0 ∷ 0 ∷ 0 ∷ 0 ∷ 0 ∷ 0 ∷ 0 ∷ 0 ∷ 0 ∷ 1 ∷ 0 ∷ 0 ∷ 0 ∷ 0 ∷ 0 ∷ 0 ∷ 0 ∷ 10
+      ∷ 0 ∷ 0 ∷ 0 ∷ 0 ∷ 0 ∷ 7 ∷ 0 ∷ 0 ∷ 0 ∷ 0 ∷ 0 ∷ 0 ∷ 0 ∷ 11 ∷ []
+  pub small_sound : inspected whole_kind.order card_kind small_archive ≡ Ok 1
