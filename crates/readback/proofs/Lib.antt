@@ -1,0 +1,11 @@
+pub mod BackFields
+pub mod BackRows
+pub mod BackNames
+pub mod BackOrder
+pub mod BackParts
+pub mod BackBlock
+pub mod BackWalk
+pub mod BackTable
+pub mod BackPlay
+pub mod BackDown
+pub mod Back

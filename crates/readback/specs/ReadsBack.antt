@@ -1,5 +1,5 @@
 -- What is laid down is accepted, and states what was laid down, stamps and values up to counting alike.
-use Rattle.std.specs.Prelude.{◌≡◌, ℕ, List, [], ◌∷◌, length, Ok}
+use Rattle.std.specs.Prelude.{◌≡◌, List, [], ◌∷◌, length, Ok}
 use Rattle.kinds.specs.Forms.{Form, Alike}
 use Rattle.kinds.specs.Stamps.{Order, Kind, Same}
 use Rattle.kinds.specs.Values.{RecordKind}

@@ -1,5 +1,5 @@
 -- What the opening values and the jobs that are laid down owe each other.
-use Rattle.std.specs.Prelude.{ℕ, ◌<◌, ◌≤◌, List, length}
+use Rattle.std.specs.Prelude.{◌<◌, ◌≤◌, List, length}
 use Rattle.std.specs.List.{AllByRecursion}
 use Rattle.kinds.specs.Stamps.{Order}
 use Rattle.law.specs.Daybook.{AcceptedJob}
