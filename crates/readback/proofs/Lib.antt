@@ -9,3 +9,5 @@ pub mod BackTable
 pub mod BackPlay
 pub mod BackDown
 pub mod Back
+pub mod Tickets
+pub mod RunsSound

@@ -1,0 +1,67 @@
+-- The journal of every run is sound.
+use mathlib.Core.List.Permᴰ
+use Rattle.std.proofs.Common.{◌≡◌, ℕ, ◌<◌, ◌≤◌, leb, List, length, take, Ok, sym, ap, ◌∙◌, subst, arith}
+use Rattle.std.specs.Option.{option_map}
+use Rattle.std.specs.List.{AllByRecursion, slice_get}
+use Rattle.std.proofs.lemmas.List.{length-take, length-map}
+use Rattle.std.proofs.lemmas.Bool.{and_parts, leb-true}
+use Rattle.kinds.specs.Stamps.{Kind, Lawful}
+use Rattle.model.specs.Rows.{stood}
+use Rattle.registrar.specs.Registry.{Registry, found}
+use Rattle.law.specs.Daybook.{AcceptedJob, Daybook, job_at, journal_of}
+use Rattle.law.specs.Account.{at_opening, played, BorneOut}
+use Rattle.law.specs.Promises.{NeatJob}
+use Rattle.law.specs.Runs.{Desk, Call, run, start}
+use Rattle.law.proofs.Members.{in_all, in_arranged}
+use Rattle.law.proofs.Sizes.{sizes}
+use Rattle.law.proofs.Invariant.{Inv}
+use Rattle.law.proofs.EveryRun.{run_inv, founded_inv, accounted, accounts}
+use Rattle.law.proofs.Keeping.{Keeps, every_run_keeps}
+use Rattle.law.proofs.LeanOn.{promises}
+use Rattle.readback.specs.Sound.{Sound}
+use Rattle.readback.proofs.Tickets.{Counted, run_counted}
+
+module _ {S R : Type 0} (k : Kind S) (laws : Lawful k) (values : List R) (d : Desk S R) (b : Daybook S R) (h : Inv k values d b) (q : Keeps k.order values d.registry b.accepted) (counted : Counted d.registry) where
+  few : length d.registry.heads ≤ 4096 → length (journal_of d.registry) ≤ 4096
+  few l =
+      let m = length-map (take d.registry.own.jobs d.registry.heads) (job_at d.registry.lines) in
+      let t = length-take d.registry.own.jobs d.registry.heads in
+      omega arith
+
+  sound_journal : Sound k.order d.registry.opening (journal_of d.registry)
+  sound_journal =
+      let z = sizes d.registry h.sized in
+      let n = and_parts (leb 1 d.registry.own.records) (leb d.registry.own.records 1024) z.records in
+      let n1 : 1 ≤ d.registry.own.records = leb-true _ _ n.0 in
+      let n2 : d.registry.own.records ≤ 1024 = leb-true _ _ n.1 in
+      let o : length d.registry.opening ≡ d.registry.own.records = z.opening in
+      let a = accounted k laws values d b h in
+      record {
+        some_records = omega arith;
+        few_records = omega arith;
+        few_jobs = few z.heads;
+        neat = subst (λ (n : ℕ). AllByRecursion (NeatJob k.order n) (journal_of d.registry)) (sym o) (promises k laws values d b h q).jobs;
+        ticketed = in_all (λ (a : AcceptedJob S R). a.ticket < 4294967296) (journal_of d.registry)
+            (λ a m. let t = q.taken a (in_arranged (Permᴰ.symm h.journal.serial.same_jobs) m) in let u : a.ticket ≤ d.registry.own.tickets = t.1 in omega arith);
+        never_falls = h.journal.serial.never_falls;
+        borne_out = subst (λ (vs : List R). BorneOut (at_opening k.order vs) (journal_of d.registry)) (sym h.opening) (a.borne_out (journal_of d.registry) h.journal.serial);
+      }
+
+pub runs_sound : {S R : Type 0} (k : Kind S) → Lawful k → (values : List R) (brought : Registry S R) → (found k.order values brought).answer ≡ Ok tt → (calls : List (Call S R))
+    → Sound k.order (run k calls (start k values brought)).desk.registry.opening (journal_of (run k calls (start k values brought)).desk.registry)
+runs_sound k laws values brought e calls =
+    sound_journal k laws values _ _ (run_inv k laws values calls (start k values brought) (founded_inv k laws values brought e)) (every_run_keeps k laws values brought e calls)
+    (run_counted k calls (start k values brought) (omega arith))
+
+-- the play of the journal ends at the registrar's values and stamps, and the opening values are as many as the records
+module _ {S R : Type 0} (k : Kind S) (laws : Lawful k) (values : List R) (brought : Registry S R) (e : (found k.order values brought).answer ≡ Ok tt) (calls : List (Call S R)) where
+  abbrev left_by : Registry S R
+  left_by = (run k calls (start k values brought)).desk.registry
+
+  pub run_ends : (x : ℕ) → played (at_opening k.order left_by.opening) (journal_of left_by) x ≡ option_map stood (slice_get left_by.rows x)
+  run_ends x =
+      let a = accounts k laws R values brought e calls in
+      ap (λ (vs : List R). played (at_opening k.order vs) (journal_of left_by) x) a.opening ∙ a.ends (journal_of left_by) a.journal.serial x
+
+  pub run_opening : length left_by.opening ≡ left_by.own.records
+  run_opening = (sizes left_by (run_inv k laws values calls (start k values brought) (founded_inv k laws values brought e)).sized).opening
