@@ -11,3 +11,6 @@ pub mod BackDown
 pub mod Back
 pub mod Tickets
 pub mod RunsSound
+pub mod PutsOver
+pub mod BlockSays
+pub mod PlaysStated
