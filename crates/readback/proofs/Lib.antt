@@ -14,3 +14,5 @@ pub mod RunsSound
 pub mod PutsOver
 pub mod BlockSays
 pub mod PlaysStated
+pub mod AlikePlays
+pub mod RunsBack

@@ -2,5 +2,6 @@
 
 #![tactic(auto)]
 
-pub mod theorems;
 pub mod playback;
+pub mod runs;
+pub mod theorems;

@@ -1,0 +1,5 @@
+use Rattle.readback.proofs.RunsBack.{run_reads}
+use Rattle.readback.proofs.runs.run_reads_back.Goals as goal
+
+pub returns : goal.returns
+returns g c registry = run_reads g.S.Stamp.kind g.met.S.Stamp.lawful g.R.Record.kind g.met.R.Record.written registry
