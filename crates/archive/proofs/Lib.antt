@@ -2,7 +2,6 @@ mod LengthTable
 pub mod Counting
 mod Steps
 pub mod Laid
-pub mod Pens
 mod Plays
 mod Entering
 pub mod Stands
@@ -10,6 +9,4 @@ pub mod Fields
 pub mod Forth
 pub mod ForthBlocks
 pub mod OneForm
-pub mod Entries
-pub mod Heads
 pub mod RowLaws

@@ -23,7 +23,7 @@ use Rattle.archive.proofs.Fields.{guarded, bound, ok_same}
 use Rattle.archive.proofs.Forth.{heading_stands, pair_stands, values_stand, values_length}
 use Rattle.archive.proofs.ForthBlocks.{blocks_stand}
 
-pairs_long : (at : ℕ) (ns : List ℕ) → length (pairs_bytes at ns) ≡ 8 * length ns
+pub pairs_long : (at : ℕ) (ns : List ℕ) → length (pairs_bytes at ns) ≡ 8 * length ns
 pairs_long at [] = refl
 pairs_long at (n ∷ ns) = let i = pairs_long (at + n) ns in let m = mul-suc 8 (length ns) in omega arith
 

@@ -11,6 +11,3 @@ pub mod Rule
 pub mod Played
 pub mod Journal
 pub mod Theorems
-pub mod Laid
-pub mod Writing
-pub mod Pens

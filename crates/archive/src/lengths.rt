@@ -1,6 +1,6 @@
 // The lengths of blocks.
 ghost use Rattle.std.specs.Prelude.{◌≡◌, ◌<◌};
-ghost use Rattle.archive.specs.Lengths.{listed_length, length_right};
+ghost use Rattle.archive.specs.Lengths.{listed_length, length_listed, length_right};
 
 // By looks and puts, 0 to 16 each: the place 17 r + p has the length of a block of r looks and p puts.
 const LENGTHS: [usize; 289] = [
@@ -30,9 +30,19 @@ fn listed(place: usize) -> usize
     LENGTHS[place]
 }
 
+// The length of a block of so many looks and puts, or none where there are more than 16 of either.
+pub fn length_of(looks: usize, puts: usize) -> Option<usize>
+    ensures { result ≡ length_listed looks puts }
+{
+    if looks > 16 || puts > 16 {
+        return None;
+    }
+    Some(listed(17 * looks + puts))
+}
+
 // Whether a block of so many looks and puts may be, and has this length.
 pub(crate) fn is_length(looks: usize, puts: usize, len: usize) -> bool
     ensures { result ≡ length_right looks puts len }
 {
-    looks <= 16 && puts <= 16 && len == listed(17 * looks + puts)
+    length_of(looks, puts) == Some(len)
 }

@@ -8,20 +8,26 @@ ghost use Rattle.archive.specs.Rule.{read_play};
 use crate::blocks::{Opened, front};
 use crate::directory::number_at;
 use crate::fault::Fault;
-use crate::laying::Pen;
 use crate::names::record_at;
 use crate::rows::{form, rows};
 use crate::whole::Archive;
 use kinds::stamp::Stamp;
+
+// Lays bytes over those of a table, from a place on.
+fn lay(table: &mut [u8], at: usize, bytes: &[u8])
+    requires { at + length bytes.now ≤ length table.old }
+    ensures { table.new ≡ laid_over at bytes.now table.old }
+{
+    table[at..at + bytes.len()].copy_from_slice(bytes);
+}
 
 // Lays the row of a record: a stamp and a value.
 fn lay_row(table: &mut [u8], x: usize, stamp: &[u8], value: &[u8])
     requires { 20 * x + length stamp.now + length value.now ≤ length table.old }
     ensures { table.new ≡ laid_over (20 * x) (stamp.now ++ value.now) table.old }
 {
-    let mut pen = Pen::new(table, 20 * x);
-    pen.lay(stamp);
-    pen.lay(value);
+    lay(table, 20 * x, stamp);
+    lay(table, 20 * x + stamp.len(), value);
 }
 
 // Fills the table: at each record the least stamp and the opening value.
