@@ -1,0 +1,4 @@
+pub mod Pens
+pub mod Entries
+pub mod Heads
+pub mod Wholes
