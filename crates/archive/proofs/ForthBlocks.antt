@@ -1,23 +1,22 @@
 -- An accepted block is what is written for the job that it states.
-use Rattle.std.proofs.Common.{◌≡◌, ℕ, zero, suc, ◌+◌, ◌-◌, ◌*◌, ◌≤◌, Bool, true, cond, not, ◌&&◌, eqb, leb, List, [], ◌∷◌, ◌++◌, length, get_or, is_some, Some, None, Ok, Err, Option, Result, sym, refl, ap, ◌∙◌, subst, add-zero, add_assoc, mul-suc, arith}
+use Rattle.std.proofs.Common.{◌≡◌, ℕ, zero, suc, ◌+◌, ◌-◌, ◌*◌, ◌≤◌, Bool, true, ◌&&◌, eqb, List, [], ◌∷◌, ◌++◌, length, get_or, is_some, Some, None, Ok, Option, Result, sym, refl, ap, ◌∙◌, subst, add-zero, add_assoc, mul-suc, arith}
 use Rattle.std.specs.Option.{ok_or}
 use Rattle.std.specs.List.{flat_map}
 use Rattle.std.proofs.lemmas.List.{length-append}
-use Rattle.std.proofs.lemmas.Bool.{and_parts, eqb-true}
 use Rattle.kinds.specs.Stamps.{Order}
 use Rattle.kinds.specs.Bytes.{be2, be4, number2, number4, Bytes, part}
 use Rattle.kinds.specs.Forms.{Form, Formed}
 use Rattle.law.specs.Daybook.{Look, Put, AcceptedJob}
 use Rattle.archive.specs.declared.fault.Fault.{Fault}
-use Rattle.archive.specs.declared.fault.Fault.TheVariants.{PairWrong, BlockWrong, ValueWrong}
+use Rattle.archive.specs.declared.fault.Fault.TheVariants.{PairWrong, ValueWrong}
 use Rattle.archive.specs.declared.blocks.Opened.{Opened}
 use Rattle.archive.specs.Faults.{onward}
-use Rattle.archive.specs.Lengths.{length_right}
 use Rattle.archive.specs.Directory.{pairs_bytes, stated_length, pair_right, read_pair}
 use Rattle.archive.specs.Values.{read_values}
-use Rattle.archive.specs.Blocks.{stamp_at, all_noted, front_right, with_stamp, read_front, names_of, read_block, read_blocks}
+use Rattle.archive.specs.Blocks.{stamp_at, all_noted, read_block, read_blocks}
 use Rattle.archive.specs.Journal.{look_bytes, put_bytes, block_bytes, block_lengths, seen_look, stated_looks, seen_put, stated_puts, stated_job, seen_job, stated_jobs}
 use Rattle.archive.proofs.Forth.{pair_stands}
+use Rattle.archive.proofs.KnownBlocks.{block_met}
 use Rattle.archive.proofs.Stands.{Stands, join, bytes_part, part_length}
 use Rattle.archive.proofs.Fields.{take-listed, stands4, stands2, guarded, bound, ok_same}
 
@@ -151,37 +150,12 @@ module _ {S R : Type 0} (o : Order S) (f : Form R) (laws : Formed 8 o.form) (for
       far2 : (at r : ℕ) → at + 18 + 22 * r ≡ at + 16 + 22 * r + 2
       far2 at r = omega arith
 
-  head_met : (at len : ℕ) (low : S) (u0 : Option S) (x : Opened S) → with_stamp o bs at len low u0 ≡ Ok x
-      → (s : S) × (u0 ≡ Some s) × (front_right o bs at len low s ≡ true) × (record { stamp = s; looks = get_or bs (at + 12) 0; puts = get_or bs (at + 13) 0 } ≡ x)
-  head_met at len low (Some s) x q = let g = guarded (front_right o bs at len low s) _ (BlockWrong at) x q in (s, refl, g.0, ok_same _ _ g.1)
-  head_met at len low None x q = let z : ◌≡◌ {A = ℕ} 0 1 = cc in absurd (omega arith)
-
-  head_says : (at len : ℕ) (low s : S) → front_right o bs at len low s ≡ true → (get_or bs (at + 14) 0 ≡ 0) × (get_or bs (at + 15) 0 ≡ 0) × (len ≡ 16 + 22 * get_or bs (at + 12) 0 + 14 * get_or bs (at + 13) 0)
-  head_says at len low s h =
-      let a = and_parts (o.before o.least s) _ h in
-      let b = and_parts (not (o.before s low)) _ a.1 in
-      let c = and_parts (leb 1 (number4 (part bs (at + 8) 4))) _ b.1 in
-      let d = and_parts (eqb (get_or bs (at + 14) 0) 0) _ c.1 in
-      let e = and_parts (eqb (get_or bs (at + 15) 0) 0) (length_right (get_or bs (at + 12) 0) (get_or bs (at + 13) 0) len) d.1 in
-      let g = and_parts (leb (get_or bs (at + 12) 0) 16) _ e.1 in
-      let i = and_parts (leb (get_or bs (at + 13) 0) 16) _ g.1 in
-      (eqb-true _ _ d.0, eqb-true _ _ e.0, eqb-true _ _ i.1)
-
   pub block_stands : (n at len : ℕ) (low : S) (h : Opened S) → at + len ≤ length bs → read_block o f bs n at len low ≡ Ok h
       → (s : S) × (stamp_at o bs at ≡ Some s) × Stands bs at (block_bytes o f (stated_job o f bs at s)) × (length (block_bytes o f (stated_job o f bs at s)) ≡ len)
   block_stands n at len low h w q =
-      let a = bound (read_front o bs at len low) _ h q in
-      let g = guarded (leb 16 len) (with_stamp o bs at len low (stamp_at o bs at)) (BlockWrong at) a.0 a.1 in
-      let m = head_met at len low (stamp_at o bs at) a.0 g.1 in
-      let says = head_says at len low m.0 m.2 in
-      let F : Opened S → Type 0 = λ x. cond (names_of o bs n at x.looks x.puts) (onward (read_values f bs (at + 26) 22 x.looks) (λ _. onward (read_values f bs (at + 18 + 22 * x.looks) 14 x.puts) (λ _. Ok x))) (Err (BlockWrong at)) ≡ Ok h in
-      let b : F (record { stamp = m.0; looks = get_or bs (at + 12) 0; puts = get_or bs (at + 13) 0 }) = subst F (sym m.3) a.2 in
-      let c = guarded (names_of o bs n at (get_or bs (at + 12) 0) (get_or bs (at + 13) 0)) _ (BlockWrong at) h b in
-      let nn = and_parts _ (all_noted o bs (at + 16) (get_or bs (at + 12) 0)) c.0 in
-      let x = bound (read_values f bs (at + 26) 22 (get_or bs (at + 12) 0)) _ h c.1 in
-      let y = bound (read_values f bs (at + 18 + 22 * get_or bs (at + 12) 0) 14 (get_or bs (at + 13) 0)) _ h x.2 in
-      let st = job_stands at m.0 (omega (arith, says.2)) m.1 says.0 says.1 nn.1 x.1 y.1 in
-      (m.0, m.1, st.0, st.1 ∙ sym says.2)
+      let m = block_met o f bs n at len low h q in
+      let st = job_stands at m.stamp (omega (arith, m.long)) m.stands m.zeros.0 m.zeros.1 m.noted m.seen m.put in
+      (m.stamp, m.stands, st.0, st.1 ∙ sym m.long)
 
   -- the pairs and the blocks from a place on
   abbrev BlocksStand : ℕ → ℕ → ℕ → ℕ → List (AcceptedJob S R) → Type 0

@@ -3,10 +3,11 @@ pub mod Counting
 mod Steps
 pub mod Laid
 mod Plays
-mod Entering
+pub mod Entering
 pub mod Stands
 pub mod Fields
 pub mod Forth
+pub mod KnownBlocks
 pub mod ForthBlocks
 pub mod OneForm
 pub mod RowLaws

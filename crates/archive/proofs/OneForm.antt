@@ -94,7 +94,7 @@ module _ {S R : Type 0} (o : Order S) (k : RecordKind R) (laws : Formed 8 o.form
       onward (read_blocks o k.form bs h.records 20 (20 + 8 * h.jobs + 12 * h.records) o.least h.jobs) (λ _.
       Ok h))) ≡ Ok x
 
-  archive_met : (x : Heading) → read_archive o k bs ≡ Ok x
+  pub archive_met : (x : Heading) → read_archive o k bs ≡ Ok x
       → (bs ≡ archive_bytes o k (stated_opening o k bs) (stated_journal o k bs)) × (length (stated_journal o k bs) ≡ x.jobs)
   archive_met x q =
       let n : ℕ = stated_records bs in

@@ -15,7 +15,7 @@ use kinds::stamp::Stamp;
 use kinds::value::Record;
 
 // Checks all but the play: heading, directory, opening values and blocks.
-pub(crate) fn checked<S: Stamp, R: Record>(bytes: &[u8]) -> Result<Archive<'_>, Fault>
+pub fn checked<S: Stamp, R: Record>(bytes: &[u8]) -> Result<Archive<'_>, Fault>
     ensures answer { headed result ≡ read_archive S.Stamp.kind.order R.Record.kind bytes.now }
     ensures bytes { IfOk result (λ a. a.bytes.now ≡ bytes.now) }
     ensures opening { IfOk result (λ a. read_values R.Record.kind.form bytes.now (20 + 8 * a.stated.jobs) 12 a.stated.records ≡ Ok tt) }

@@ -5,7 +5,7 @@
 mod blocks;
 mod directory;
 pub mod fault;
-mod heading;
+pub mod heading;
 pub mod inspect;
 pub mod lengths;
 mod names;
@@ -13,4 +13,4 @@ pub mod play;
 mod replay;
 mod rows;
 mod values;
-mod whole;
+pub mod whole;

@@ -10,7 +10,7 @@ use crate::rows::rows;
 // The bytes of an archive, and what its heading states. The directory and the opening values are there
 // whole, and the pairs of the jobs are right.
 #[derive(Clone, Copy)]
-pub(crate) struct Archive<'a> {
+pub struct Archive<'a> {
     pub bytes: &'a [u8],
     pub stated: Heading,
     ghost limited: { Limited stated },
@@ -20,7 +20,7 @@ pub(crate) struct Archive<'a> {
 
 impl Archive<'_> {
     // Where the opening values start, behind the directory.
-    pub(crate) fn start(&self) -> usize
+    pub fn start(&self) -> usize
         ensures { result ≡ 20 + 8 * self.now.stated.jobs }
     {
         20 + 8 * self.stated.jobs
