@@ -1,0 +1,155 @@
+-- The jobs that an archive states, found by the offsets in its directory.
+use Rattle.std.proofs.Common.{◌≡◌, ℕ, zero, suc, ◌+◌, ◌-◌, ◌*◌, ◌<◌, ◌≤◌, Bool, ◌&&◌, eqb, leb, List, length, get_or, drop, Some, None, Ok, Option, refl, sym, ap, ◌∙◌, subst, mul-zero, mul-suc, arith}
+use Rattle.std.specs.List.{slice_get}
+use Rattle.std.specs.Option.{option_map}
+use Rattle.std.proofs.lemmas.Bool.{and_parts, leb-true, eqb-true}
+use Rattle.kinds.specs.Bytes.{number4, part}
+use Rattle.kinds.specs.Forms.{Form}
+use Rattle.kinds.specs.Stamps.{Order}
+use Rattle.kinds.specs.Values.{RecordKind}
+use Rattle.law.specs.Daybook.{AcceptedJob}
+use Rattle.archive.specs.declared.fault.Fault.TheVariants.{HeadingWrong, PairWrong}
+use Rattle.archive.specs.declared.heading.Heading.{Heading}
+use Rattle.archive.specs.Heading.{mark_right, kinds_right, sizes_right, read_sizes, read_heading}
+use Rattle.archive.specs.Directory.{stated_length, pair_right, read_pair, read_directory}
+use Rattle.archive.specs.Values.{read_values, stated_values}
+use Rattle.archive.specs.Blocks.{stamp_at, read_block, read_blocks}
+use Rattle.archive.specs.Rule.{read_archive}
+use Rattle.archive.specs.Journal.{stated_job, seen_job, stated_jobs, stated_records, stated_count, stated_opening, stated_journal}
+use Rattle.archive.proofs.Fields.{guarded, bound, ok_same}
+use Rattle.archive.proofs.KnownBlocks.{block_met}
+use Rattle.reader.specs.Readable.{Readable}
+use Rattle.reader.proofs.Lists.{values_long}
+
+-- the pair of a part: where it starts, and that it ends within the archive
+record PairMet (bs : List ℕ) (at from end : ℕ) : Type 0 where
+  pub starts : number4 (part bs at 4) ≡ from
+  pub ends : from + stated_length bs at ≡ end
+  pub within : end ≤ length bs
+
+pair_met : (bs : List ℕ) (at from end : ℕ) (last : Bool) → read_pair bs at from last ≡ Ok end → PairMet bs at from end
+pair_met bs at from end last q =
+    let g = guarded (pair_right bs at from last) (Ok (from + stated_length bs at)) (PairWrong at) end q in
+    let a = and_parts (leb (at + 8) (length bs)) _ g.0 in
+    let b = and_parts (eqb (number4 (part bs at 4)) from) _ a.1 in
+    let c = and_parts (leb (from + stated_length bs at) (length bs)) _ b.1 in
+    let e : from + stated_length bs at ≡ end = ok_same _ _ g.1 in
+    let P : ℕ → Type 0 = λ n. n ≤ length bs in
+    record { starts = eqb-true _ _ b.0; ends = e; within = subst P e (leb-true _ _ c.0) }
+
+-- a job in front of others
+module _ {S R : Type 0} (o : Order S) (f : Form R) (bs : List ℕ) where
+  record JobFirst (at : ℕ) (u0 : Option S) (js : List (AcceptedJob S R)) : Type 0 where
+    pub long : length (seen_job o f bs at u0 js) ≡ suc (length js)
+    pub front : slice_get (seen_job o f bs at u0 js) zero ≡ option_map (stated_job o f bs at) u0
+    pub behind : (i : ℕ) → slice_get (seen_job o f bs at u0 js) (suc i) ≡ slice_get js i
+
+  job_first : (at : ℕ) (u0 : Option S) (s : S) (js : List (AcceptedJob S R)) → u0 ≡ Some s → JobFirst at u0 js
+  job_first at (Some t) s js e = record { long = refl; front = refl; behind = λ i. refl }
+  job_first at None s js e = let z : ◌≡◌ {A = ℕ} 0 1 = cc in absurd (omega arith)
+
+module _ {S R : Type 0} (o : Order S) (f : Form R) (bs : List ℕ) where
+  -- the block at a place can be read, and states a job
+  abbrev pub CanRead : ℕ → Type 0
+  CanRead at = Readable o f bs at (get_or bs (at + 12) 0) (get_or bs (at + 13) 0)
+
+  pub record JobTold (at : ℕ) (found : Option (AcceptedJob S R)) : Type 0 where
+    pub readable : CanRead at
+    pub found_is : found ≡ option_map (stated_job o f bs at) (stamp_at o bs at)
+
+  -- the first of the blocks, and those behind it
+  record BlocksMet (dir at n m end : ℕ) : Type 0 where
+    pub next : ℕ
+    pub pair : PairMet bs dir at next
+    pub first : JobFirst o f bs at (stamp_at o bs at) (stated_jobs o f bs (dir + 8) (at + stated_length bs dir) m)
+    pub readable : CanRead at
+    pub low : S
+    pub rest : read_blocks o f bs n (dir + 8) (at + stated_length bs dir) low m ≡ Ok end
+
+  blocks_met : (dir at n m end : ℕ) (low : S) → read_blocks o f bs n dir at low (suc m) ≡ Ok end → BlocksMet dir at n m end
+  blocks_met dir at n m end low q =
+      let a = bound (read_pair bs dir at (eqb m 0)) _ end q in
+      let p = pair_met bs dir at a.0 (eqb m 0) a.1 in
+      let b = bound (read_block o f bs n at (a.0 - at) low) _ end a.2 in
+      let k = block_met o f bs n at (a.0 - at) low b.0 b.1 in
+      let r : ℕ = get_or bs (at + 12) 0 in
+      let P : ℕ → Type 0 = λ i. read_blocks o f bs n (dir + 8) i b.0.stamp m ≡ Ok end in
+      let Seen : ℕ → Type 0 = λ i. read_values f bs i 22 r ≡ Ok tt in
+      let Put : ℕ → Type 0 = λ i. read_values f bs i 14 (get_or bs (at + 13) 0) ≡ Ok tt in
+      let x : at + 26 ≡ at + 16 + 10 = omega arith in
+      let y : at + 18 + 22 * r ≡ at + 16 + 22 * r + 2 = omega arith in
+      record {
+        next = a.0;
+        pair = p;
+        first = job_first o f bs at (stamp_at o bs at) k.stamp (stated_jobs o f bs (dir + 8) (at + stated_length bs dir) m) k.stands;
+        readable = (omega (arith, p.ends, p.within, k.long), k.noted, subst Seen x k.seen, subst Put y k.put);
+        low = b.0.stamp;
+        rest = subst P (sym p.ends) b.2;
+      }
+
+  pub jobs_long : (m dir at n end : ℕ) (low : S) → read_blocks o f bs n dir at low m ≡ Ok end → length (stated_jobs o f bs dir at m) ≡ m
+  jobs_long zero dir at n end low q = refl
+  jobs_long (suc m) dir at n end low q =
+      let b = blocks_met dir at n m end low q in
+      b.first.long ∙ ap suc (jobs_long m (dir + 8) (at + stated_length bs dir) n end b.low b.rest)
+
+  pub job_told : (m dir at n end k : ℕ) (low : S) → k < m → read_blocks o f bs n dir at low m ≡ Ok end
+      → JobTold (number4 (part bs (dir + 8 * k) 4)) (slice_get (stated_jobs o f bs dir at m) k)
+  job_told zero dir at n end k low l q = absurd (omega arith)
+  job_told (suc m) dir at n end zero low l q =
+      let b = blocks_met dir at n m end low q in
+      let e : dir ≡ dir + 8 * zero = omega (arith, mul-zero 8) in
+      let P : ℕ → Type 0 = λ i. JobTold i (slice_get (stated_jobs o f bs dir at (suc m)) zero) in
+      subst P (sym b.pair.starts ∙ ap (λ i. number4 (part bs i 4)) e) (record { readable = b.readable; found_is = b.first.front })
+  job_told (suc m) dir at n end (suc k) low l q =
+      let b = blocks_met dir at n m end low q in
+      let e : dir + 8 + 8 * k ≡ dir + 8 * suc k = omega (arith, mul-suc 8 k) in
+      let t = job_told m (dir + 8) (at + stated_length bs dir) n end k b.low (omega arith) b.rest in
+      let P : ℕ → Type 0 = λ i. JobTold (number4 (part bs i 4)) (slice_get (stated_jobs o f bs dir at (suc m)) (suc k)) in
+      subst P e (record { readable = t.readable; found_is = b.first.behind k ∙ t.found_is })
+
+module _ {S R : Type 0} (o : Order S) (k : RecordKind R) (bs : List ℕ) where
+  -- what is known of an archive that was read
+  pub record ArchiveMet (h : Heading) : Type 0 where
+    pub headed : record { records = stated_records bs; jobs = stated_count bs } ≡ h
+    pub values : read_values k.form bs (20 + 8 * h.jobs) 12 h.records ≡ Ok tt
+    pub end : ℕ
+    pub blocks : read_blocks o k.form bs h.records 20 (20 + 8 * h.jobs + 12 * h.records) o.least h.jobs ≡ Ok end
+
+  pub archive_met : (h : Heading) → read_archive o k bs ≡ Ok h → ArchiveMet h
+  archive_met h q =
+      let a = bound (read_heading o.number k.number bs) _ h q in
+      let b = guarded (leb 6 (length bs) && (mark_right bs && kinds_right o.number k.number bs)) (read_sizes (drop 6 bs)) HeadingWrong a.0 a.1 in
+      let c = guarded (sizes_right (drop 6 bs)) (Ok (record { records = stated_records bs; jobs = stated_count bs })) HeadingWrong a.0 b.1 in
+      let d = bound (read_directory bs a.0.records a.0.jobs) _ h a.2 in
+      let v = bound (read_values k.form bs (20 + 8 * a.0.jobs) 12 a.0.records) _ h d.2 in
+      let w = bound (read_blocks o k.form bs a.0.records 20 (20 + 8 * a.0.jobs + 12 * a.0.records) o.least a.0.jobs) _ h v.2 in
+      let P : Heading → Type 0 = λ x. ArchiveMet x in
+      subst P (ok_same _ _ w.2) (record { headed = ok_same _ _ c.1; values = v.1; end = w.0; blocks = w.1 })
+
+  pub opening_is : (h : Heading) → read_archive o k bs ≡ Ok h → stated_opening o k bs ≡ stated_values k.form bs (20 + 8 * h.jobs) 12 h.records
+  opening_is h q =
+      let F : Heading → List R = λ x. stated_values k.form bs (20 + 8 * x.jobs) 12 x.records in
+      ap F (archive_met h q).headed
+
+  -- as many opening values as records, and as many jobs as the heading says
+  pub opening_long : (h : Heading) → read_archive o k bs ≡ Ok h → length (stated_opening o k bs) ≡ h.records
+  opening_long h q =
+      let m = archive_met h q in
+      ap length (opening_is h q) ∙ values_long k.form bs h.records (20 + 8 * h.jobs) m.values
+
+  abbrev jobs_in : Heading → List (AcceptedJob S R)
+  jobs_in x = stated_jobs o k.form bs 20 (20 + 8 * x.jobs + 12 * x.records) x.jobs
+
+  pub journal_long : (h : Heading) → read_archive o k bs ≡ Ok h → length (stated_journal o k bs) ≡ h.jobs
+  journal_long h q =
+      let m = archive_met h q in
+      let F : Heading → ℕ = λ x. length (jobs_in x) in
+      ap F m.headed ∙ jobs_long o k.form bs h.jobs 20 (20 + 8 * h.jobs + 12 * h.records) h.records m.end o.least m.blocks
+
+  -- the job of a number stands where its pair says
+  pub job_found : (h : Heading) (i : ℕ) → read_archive o k bs ≡ Ok h → i < h.jobs → JobTold o k.form bs (number4 (part bs (20 + 8 * i) 4)) (slice_get (stated_journal o k bs) i)
+  job_found h i q l =
+      let m = archive_met h q in
+      let P : Heading → Type 0 = λ x. JobTold o k.form bs (number4 (part bs (20 + 8 * i) 4)) (slice_get (jobs_in x) i) in
+      subst P (sym m.headed) (job_told o k.form bs h.jobs 20 (20 + 8 * h.jobs + 12 * h.records) h.records m.end i o.least l m.blocks)

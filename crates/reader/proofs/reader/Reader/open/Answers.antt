@@ -1,0 +1,13 @@
+use Rattle.std.proofs.Common.{sym, ap, ◌∙◌, arith}
+use Rattle.kinds.specs.Bytes.{Bytes}
+use Rattle.archive.specs.Journal.{archive_bytes, stated_opening, stated_journal}
+use Rattle.archive.proofs.OneForm.{archive_met}
+use Rattle.reader.proofs.reader.Reader.open.Goals as goal
+
+pub returns-clause-one_form : goal.returns-clause-one_form
+returns-clause-one_form g c =
+    let o = g.S.Stamp.kind.order in
+    let k = g.R.Record.kind in
+    let t : Bytes c.args.bytes.now = λ i. let b = c.type_inv.bytes i in omega (arith, b) in
+    let met = archive_met o k g.met.S.Stamp.lawful.ordered.formed g.met.R.Record.written c.args.bytes.now t c.in_ok-archive.archive.stated (sym c.in_ok-archive.ensures.answer) in
+    met.0 ∙ ap (λ bs. archive_bytes o k (stated_opening o k bs) (stated_journal o k bs)) (sym c.in_ok-archive.ensures.bytes)

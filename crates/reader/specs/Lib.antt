@@ -1,0 +1,3 @@
+pub mod Stated
+pub mod Readable
+pub mod Shown

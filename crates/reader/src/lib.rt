@@ -1,0 +1,7 @@
+// A typed reader of archives: the opening values and the jobs that an archive states.
+
+#![tactic(auto)]
+
+mod forms;
+pub mod job;
+pub mod reader;
