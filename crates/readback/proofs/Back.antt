@@ -22,18 +22,18 @@ use Rattle.archive.specs.Play.{opening_table}
 use Rattle.archive.specs.Rule.{read_archive, read_play, inspected}
 use Rattle.archive.specs.Journal.{block_bytes, archive_bytes, stated_records, stated_opening, stated_journal, stated_jobs}
 use Rattle.archive.proofs.ForthBlocks.{block_long}
-use Rattle.readback.specs.Sound.{Sound}
+use Rattle.readback.specs.Sound.{Orderly, BorneOutAlike}
 use Rattle.readback.specs.ReadsBack.{Each, AlikeJob, SoundReadsBack}
 use Rattle.readback.proofs.BackRows.{values_back}
 use Rattle.readback.proofs.BackNames.{every, few_looks, few_puts}
 use Rattle.readback.proofs.BackWalk.{pair_back, Walk, none_behind, walk, pairs_walked, blocks_walked, jobs_walked}
-use Rattle.readback.proofs.BackTable.{held_opening}
-use Rattle.readback.proofs.BackPlay.{play_walked}
+use Rattle.readback.proofs.BackTable.{Held, held_opening}
+use Rattle.readback.proofs.BackPlay.{play_walked, play_bears}
 use Rattle.readback.proofs.BackDown.{counts, Down, down}
 
 -- bytes in which sound values and jobs are laid down
 module _ {S R : Type 0} (o : Order S) (k : RecordKind R) (bs : List ℕ) (values : List R) (jobs : List (AcceptedJob S R))
-    (laws : Ordered o) (formed : Written k) (sound : Sound o values jobs) (down : Down o k bs values jobs) where
+    (laws : Ordered o) (formed : Written k) (orderly : Orderly o values jobs) (down : Down o k bs values jobs) where
   -- at most 592 bytes to a block
   blocks_short : (js : List (AcceptedJob S R)) → AllByRecursion (NeatJob o (length values)) js → length (flat_map (block_bytes o k.form) js) ≤ 592 * length js
   blocks_short [] h = omega arith
@@ -47,14 +47,14 @@ module _ {S R : Type 0} (o : Order S) (k : RecordKind R) (bs : List ℕ) (values
       omega arith
 
   small : length bs < 4294967296
-  small = let l = down.long in let b = blocks_short jobs sound.neat in let x = sound.few_records in let y = sound.few_jobs in omega arith
+  small = let l = down.long in let b = blocks_short jobs orderly.neat in let x = orderly.few_records in let y = orderly.few_jobs in omega arith
 
-  walked : Walk o k.form bs (length values) 20 (20 + 8 * length jobs + 12 * length values) o.least jobs
+  pub walked : Walk o k.form bs (length values) 20 (20 + 8 * length jobs + 12 * length values) o.least jobs
   walked =
-      let x = sound.few_records in
+      let x = orderly.few_records in
       walk o k.form bs (length values) laws formed (omega arith) small jobs 20 (20 + 8 * length jobs + 12 * length values) o.least o.least refl
-      (every (NeatJob o (length values)) (λ (a : AcceptedJob S R). NotAfter o o.least a.stamp) (λ a h. lt_le o laws o.least a.stamp h.risen) jobs sound.neat)
-      sound.never_falls sound.neat sound.ticketed down.job_pairs down.laid_jobs down.long
+      (every (NeatJob o (length values)) (λ (a : AcceptedJob S R). NotAfter o o.least a.stamp) (λ a h. lt_le o laws o.least a.stamp h.risen) jobs orderly.neat)
+      orderly.never_falls orderly.neat orderly.ticketed down.job_pairs down.laid_jobs down.long
 
   abbrev place : ℕ
   place = 20 + 8 * length jobs + 12 * length values
@@ -82,17 +82,26 @@ module _ {S R : Type 0} (o : Order S) (k : RecordKind R) (bs : List ℕ) (values
       ∙ ap (λ r. onward r (λ _. onward (read_blocks o k.form bs (length values) 20 place o.least (length jobs)) (λ _. Ok h))) v.read
       ∙ ap (λ r. onward r (λ _. Ok h)) b.1
 
-  play_back : read_play o bs (length values) (length jobs) ≡ Ok tt
-  play_back =
-      let x = sound.few_records in
-      play_walked o k.form laws.formed formed bs (length values) (omega arith) jobs 20 place o.least (at_opening o values)
-      (opening_table (o.form.written o.least) bs (20 + 8 * length jobs) (length values)) walked sound.neat sound.borne_out
-      (held_opening o k.form laws.formed formed bs values (20 + 8 * length jobs) down.laid_values)
+  held_first : Held o k.form (length values) (at_opening o values) (opening_table (o.form.written o.least) bs (20 + 8 * length jobs) (length values))
+  held_first = held_opening o k.form laws.formed formed bs values (20 + 8 * length jobs) down.laid_values
 
-  accepted : inspected o k bs ≡ Ok (length jobs)
-  accepted =
+  play_back : BorneOutAlike o k.form (at_opening o values) jobs → read_play o bs (length values) (length jobs) ≡ Ok tt
+  play_back borne =
+      let x = orderly.few_records in
+      play_walked o k.form laws.formed formed bs (length values) (omega arith) jobs 20 place o.least (at_opening o values)
+      (opening_table (o.form.written o.least) bs (20 + 8 * length jobs) (length values)) walked orderly.neat borne held_first
+
+  -- and the other way round
+  pub borne_out : read_play o bs (length values) (length jobs) ≡ Ok tt → BorneOutAlike o k.form (at_opening o values) jobs
+  borne_out q =
+      let x = orderly.few_records in
+      play_bears o k.form laws.formed formed bs (length values) (omega arith) jobs 20 place o.least (at_opening o values)
+      (opening_table (o.form.written o.least) bs (20 + 8 * length jobs) (length values)) walked orderly.neat held_first q
+
+  accepted : BorneOutAlike o k.form (at_opening o values) jobs → inspected o k bs ≡ Ok (length jobs)
+  accepted borne =
       ap (λ r. onward r (λ (h : Heading). onward (read_play o bs h.records h.jobs) (λ _. Ok h.jobs))) archive_back
-      ∙ ap (λ r. onward r (λ _. Ok (length jobs))) play_back
+      ∙ ap (λ r. onward r (λ _. Ok (length jobs))) (play_back borne)
 
   opening_back : Each (Alike k.form) (stated_opening o k bs) values
   opening_back =
@@ -109,9 +118,9 @@ module _ {S R : Type 0} (o : Order S) (k : RecordKind R) (bs : List ℕ) (values
 pub sound_reads_back : {S R : Type 0} (o : Order S) (r : RecordKind R) → Ordered o → Written r → SoundReadsBack o r
 sound_reads_back o r laws formed values jobs sound =
     let bs : List ℕ = archive_bytes o r values jobs in
-    let d : Down o r bs values jobs = down o r formed values jobs sound in
+    let d : Down o r bs values jobs = down o r formed values jobs sound.orderly in
     record {
-      accepted = accepted o r bs values jobs laws formed sound d;
-      opening = opening_back o r bs values jobs laws formed sound d;
-      journal = journal_back o r bs values jobs laws formed sound d;
+      accepted = accepted o r bs values jobs laws formed sound.orderly d sound.borne_out;
+      opening = opening_back o r bs values jobs laws formed sound.orderly d;
+      journal = journal_back o r bs values jobs laws formed sound.orderly d;
     }

@@ -16,7 +16,7 @@ use Rattle.archive.specs.Values.{values_bytes}
 use Rattle.archive.specs.Journal.{block_bytes, block_lengths, archive_bytes, stated_records, stated_count}
 use Rattle.archive.proofs.Stands.{Stands, first, second, of_all}
 use Rattle.archive.proofs.Forth.{values_length}
-use Rattle.readback.specs.Sound.{Sound}
+use Rattle.readback.specs.Sound.{Orderly}
 use Rattle.readback.proofs.BackFields.{moved}
 
 abbrev pub counts : ℕ → ℕ → Heading
@@ -39,7 +39,7 @@ module _ {S R : Type 0} (o : Order S) (k : RecordKind R) (bs : List ℕ) (values
     pub long : 20 + 8 * length jobs + 12 * length values + length (flat_map (block_bytes o k.form) jobs) ≡ length bs
 
 -- heading, directory, values and blocks, each at its place
-module _ {S R : Type 0} (o : Order S) (k : RecordKind R) (formed : Written k) (values : List R) (jobs : List (AcceptedJob S R)) (sound : Sound o values jobs) where
+module _ {S R : Type 0} (o : Order S) (k : RecordKind R) (formed : Written k) (values : List R) (jobs : List (AcceptedJob S R)) (orderly : Orderly o values jobs) where
   abbrev bytes : List ℕ
   bytes = archive_bytes o k values jobs
 
@@ -76,10 +76,10 @@ module _ {S R : Type 0} (o : Order S) (k : RecordKind R) (formed : Written k) (v
       omega arith
 
   records_there : records_in (drop 6 bytes) ≡ length values
-  records_there = let x = sound.few_records in back2 (length values) (omega arith)
+  records_there = let x = orderly.few_records in back2 (length values) (omega arith)
 
   jobs_there : jobs_in (drop 6 bytes) ≡ length jobs
-  jobs_there = let x = sound.few_jobs in back4 (length jobs) (omega arith)
+  jobs_there = let x = orderly.few_jobs in back4 (length jobs) (omega arith)
 
   sizes_there : sizes_right (drop 6 bytes) ≡ true
   sizes_there =
@@ -87,9 +87,9 @@ module _ {S R : Type 0} (o : Order S) (k : RecordKind R) (formed : Written k) (v
       let d = length-drop 6 bytes in
       let r = records_there in
       let j = jobs_there in
-      let x = sound.some_records in
-      let y = sound.few_records in
-      let z = sound.few_jobs in
+      let x = orderly.some_records in
+      let y = orderly.few_records in
+      let z = orderly.few_jobs in
       and_from _ _ (le-leb 6 (length (drop 6 bytes)) (omega arith))
       (and_from _ _ (le-leb 1 (records_in (drop 6 bytes)) (omega arith))
       (and_from _ _ (le-leb (records_in (drop 6 bytes)) 1024 (omega arith)) (le-leb (jobs_in (drop 6 bytes)) 4096 (omega arith))))

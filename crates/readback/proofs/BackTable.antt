@@ -5,9 +5,10 @@ use Rattle.std.specs.List.{AllByRecursion, flat_map, slice_get}
 use Rattle.std.proofs.lemmas.List.{length-append, length-take-le, length-drop, take_at, drop_at, take-take, drop-take, drop-drop, take-append-le, drop-append-le, append_assoc}
 use Rattle.std.proofs.lemmas.Bool.{eqb-true, eqb-false, ne_eqb, cases_lt}
 use Rattle.kinds.specs.Bytes.{part}
-use Rattle.kinds.specs.Forms.{Form, Formed}
-use Rattle.kinds.specs.Stamps.{Order}
+use Rattle.kinds.specs.Forms.{Form, Formed, Alike}
+use Rattle.kinds.specs.Stamps.{Order, Same}
 use Rattle.model.specs.Rows.{Stood}
+use Rattle.law.proofs.RowLaws.{nth_some}
 use Rattle.law.proofs.StampOrder.{some_none, some_inj}
 use Rattle.law.specs.Account.{StandingAt, put_of, at_opening, under}
 use Rattle.law.specs.Daybook.{Put}
@@ -65,18 +66,29 @@ module _ {S R : Type 0} (o : Order S) (f : Form R) where
   abbrev pub row_put : S → Put R → List ℕ → List ℕ
   row_put s p table = laid_over (20 * p.number) (row_bytes (put_stood s p)) table
 
-  -- a table of n records that holds what stands
+  -- a table of n records, at each of which something stands, that holds it
   pub record Held (n : ℕ) (standing : StandingAt S R) (table : List ℕ) : Type 0 where
     pub long : length table ≡ 20 * n
+    pub stands : (x : ℕ) → x < n → (w : Stood S R) × (standing x ≡ Some w)
     pub rows : (x : ℕ) (w : Stood S R) → x < n → standing x ≡ Some w → part table (20 * x) 20 ≡ row_bytes w
 
   -- the same at every record
   pub held_same : (n : ℕ) (here there : StandingAt S R) (table : List ℕ) → ((x : ℕ) → there x ≡ here x) → Held n here table → Held n there table
-  held_same n here there table e h = record { long = h.long; rows = λ x w l q. h.rows x w l (sym (e x) ∙ q) }
+  held_same n here there table e h = record { long = h.long; stands = λ x l. let u = h.stands x l in (u.0, e x ∙ u.1); rows = λ x w l q. h.rows x w l (sym (e x) ∙ q) }
 
   module _ (laws : Formed 8 o.form) (formed : Formed 12 f) where
     pub row_long : (w : Stood S R) → length (row_bytes w) ≡ 20
     row_long w = let a = length-append (o.form.written w.stamp) (f.written w.value) in let b = laws.wide w.stamp in let c = formed.wide w.value in omega arith
+
+  -- rows that count alike are the same bytes, and the other way round
+  pub alike_rows : (u w : Stood S R) → Same o u.stamp w.stamp → Alike f u.value w.value → row_bytes u ≡ row_bytes w
+  alike_rows u w s v = ap (λ xs. xs ++ f.written u.value) s ∙ ap (λ ys. o.form.written w.stamp ++ ys) v
+
+  pub rows_alike : Formed 8 o.form → (u w : Stood S R) → row_bytes u ≡ row_bytes w → Same o u.stamp w.stamp × Alike f u.value w.value
+  rows_alike laws u w e = (
+    sym (take_at (o.form.written u.stamp) (f.written u.value) 8 (laws.wide u.stamp)) ∙ ap (take 8) e ∙ take_at (o.form.written w.stamp) (f.written w.value) 8 (laws.wide w.stamp),
+    sym (drop_at (o.form.written u.stamp) (f.written u.value) 8 (laws.wide u.stamp)) ∙ ap (drop 8) e ∙ drop_at (o.form.written w.stamp) (f.written w.value) 8 (laws.wide w.stamp),
+  )
 
 -- the row of a value among rows of 20 bytes
 module _ {R : Type 0} (g : R → List ℕ) (wide : (v : R) → length (g v) ≡ 20) where
@@ -116,6 +128,7 @@ module _ {S R : Type 0} (o : Order S) (f : Form R) (laws : Formed 8 o.form) (for
       subst (λ (t : List ℕ). Held o f (length vs) (at_opening o vs) t) (sym (opening_rows bs vs at p))
       (record {
         long = rows_long first_row (λ v. row_long o f laws formed (record { value = v; stamp = o.least })) vs;
+        stands = λ x l. let u = nth_some vs x l in (record { value = u.0; stamp = o.least }, ap (option_map (λ v. record { value = v; stamp = o.least })) u.1);
         rows = λ x w l e.
             let u = opened_at (slice_get vs x) w e in
             row_in first_row (λ v. row_long o f laws formed (record { value = v; stamp = o.least })) vs x u.0 u.1 ∙ ap (row_bytes o f) u.2;
@@ -139,8 +152,12 @@ module _ {S R : Type 0} (o : Order S) (f : Form R) (laws : Formed 8 o.form) (for
         (cases_lt x p.number)
         ∙ h.rows x w l e
 
+    stood_after : (x : ℕ) → x < n → (b : Bool) → (w : Stood S R) × (cond b (Some (put_stood s p)) (standing x) ≡ Some w)
+    stood_after x l true = (put_stood s p, refl)
+    stood_after x l false = h.stands x l
+
     pub held_put : Held o f n (one_put s p standing) (row_put o f s p table)
-    held_put = record { long = laid_long (20 * p.number) (row_bytes o f (put_stood s p)) table fits ∙ h.long; rows = λ x w l e. row_after x w l (eqb x p.number) refl e }
+    held_put = record { long = laid_long (20 * p.number) (row_bytes o f (put_stood s p)) table fits ∙ h.long; stands = λ x l. stood_after x l (eqb x p.number); rows = λ x w l e. row_after x w l (eqb x p.number) refl e }
 
 -- a record that no put names
 no_put : {R : Type 0} (x : ℕ) (ps : List (Put R)) → AllByRecursion (◌≢◌ x) (put_numbers ps) → put_of x ps ≡ None

@@ -60,7 +60,7 @@ module _ {S R : Type 0} (k : Kind S) (r : RecordKind R) (g : Registry S R) where
 
 module _ {S R : Type 0} (k : Kind S) (laws : Lawful k) (r : RecordKind R) (written : Written r) (g : Registry S R) where
   pub run_reads : RunReadsBack k r g
-  run_reads values brought e calls q = subst (λ (z : Registry S R). ReadsBack k.order r z.opening (journal_of z)) q (sound_reads_back k.order r laws.ordered written _ _ (runs_sound k laws values brought e calls))
+  run_reads values brought e calls q = subst (λ (z : Registry S R). ReadsBack k.order r z.opening (journal_of z)) q (sound_reads_back k.order r laws.ordered written _ _ (runs_sound k laws r.form values brought e calls))
 
   pub run_plays : RunPlaysBack k r g
   run_plays values brought e calls q space l x =

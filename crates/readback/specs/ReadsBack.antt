@@ -44,7 +44,7 @@ module _ {S R : Type 0} (o : Order S) (k : RecordKind R) where
 
   -- whatever is sound reads back
   abbrev pub SoundReadsBack : Type 0
-  SoundReadsBack = (values : List R) (jobs : List (AcceptedJob S R)) → Sound o values jobs → ReadsBack values jobs
+  SoundReadsBack = (values : List R) (jobs : List (AcceptedJob S R)) → Sound o k.form values jobs → ReadsBack values jobs
 
 module _ {S R : Type 0} (k : Kind S) (r : RecordKind R) where
   -- whichever run led to a registry: what is laid down of it reads back
