@@ -20,7 +20,7 @@ module _ {A : Type 0} (P : A → Type 0) where
   every Q f [] h = tt
   every Q f (x ∷ xs) h = (f x h.0, every Q f xs h.1)
 
-  all_join : (xs ys : List A) → AllByRecursion P xs → AllByRecursion P ys → AllByRecursion P (xs ++ ys)
+  pub all_join : (xs ys : List A) → AllByRecursion P xs → AllByRecursion P ys → AllByRecursion P (xs ++ ys)
   all_join [] ys h k = k
   all_join (x ∷ xs) ys h k = (h.0, all_join xs ys h.1 k)
 
@@ -28,7 +28,7 @@ module _ {A : Type 0} (P : A → Type 0) where
   all_first true x xs h k = (h, k)
   all_first false x xs h k = k
 
-  all_kept : (t : A → Bool) (xs : List A) → AllByRecursion P xs → AllByRecursion P (filter t xs)
+  pub all_kept : (t : A → Bool) (xs : List A) → AllByRecursion P xs → AllByRecursion P (filter t xs)
   all_kept t [] h = tt
   all_kept t (x ∷ xs) h = all_first (t x) x (filter t xs) h.0 (all_kept t xs h.1)
 

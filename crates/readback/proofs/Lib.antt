@@ -9,6 +9,8 @@ pub mod BackTable
 pub mod BackPlay
 pub mod BackDown
 pub mod Back
+pub mod NamesSay
+pub mod JobsSay
 pub mod Tickets
 pub mod RunsSound
 pub mod PutsOver

@@ -2,7 +2,7 @@
 use Rattle.std.proofs.Common.{◌≡◌, ℕ, zero, suc, ◌+◌, ◌-◌, ◌*◌, ◌≤◌, Bool, true, false, cond, ◌&&◌, eqb, leb, List, length, get_or, take, drop, Some, None, Ok, Option, Result, sym, refl, ap, ◌∙◌, subst, arith}
 use Rattle.std.specs.Option.{option_map, ok_or}
 use Rattle.std.specs.List.{slice_get}
-use Rattle.std.proofs.lemmas.Bool.{and_from, eq-eqb, le-leb}
+use Rattle.std.proofs.lemmas.Bool.{and_from, and_parts, eq-eqb, le-leb, leb-true}
 use Rattle.kinds.specs.Bytes.{part}
 use Rattle.kinds.specs.Forms.{Form}
 use Rattle.kinds.specs.Stamps.{Order}
@@ -13,6 +13,7 @@ use Rattle.law.specs.Account.{StandingAt, put_of, at_opening, after_job, played}
 use Rattle.archive.specs.declared.fault.Fault.{Fault}
 use Rattle.archive.specs.declared.fault.Fault.TheVariants.{HeadingWrong, PairWrong, ValueWrong}
 use Rattle.archive.specs.declared.heading.Heading.{Heading}
+use Rattle.archive.specs.declared.blocks.Opened.{Opened}
 use Rattle.archive.specs.Faults.{onward}
 use Rattle.archive.specs.Lengths.{block_length}
 use Rattle.archive.specs.Heading.{mark_right, kinds_right, sizes_right, read_sizes, read_heading}
@@ -57,9 +58,9 @@ module _ {S R : Type 0} (o : Order S) (f : Form R) (bs : List ℕ) where
       by true = after_length o f bs (get_or bs (at + 13) 0) (at + 16 + 22 * get_or bs (at + 12) 0) vs
       by false = refl
 
-  block_shows : (at n len : ℕ) (vs : List R) (standing : StandingAt S R) → BlockSays o f bs n at len → at + len ≤ length bs → length vs ≡ n → Shows vs standing
+  block_shows : (at n len : ℕ) (low : S) (opened : Opened S) (vs : List R) (standing : StandingAt S R) → BlockSays o f bs n at len low opened → at + len ≤ length bs → length vs ≡ n → Shows vs standing
       → (s : S) → Shows (block_played f bs at vs) (after_job (stated_job o f bs at s) standing)
-  block_shows at n len vs standing b w l h s x =
+  block_shows at n len low opened vs standing b w l h s x =
       let first : ℕ = at + 16 + 22 * get_or bs (at + 12) 0 in
       let p : ℕ = get_or bs (at + 13) 0 in
       let long : len ≡ block_length (get_or bs (at + 12) 0) (get_or bs (at + 13) 0) = b.long in
@@ -83,22 +84,25 @@ module _ {S R : Type 0} (o : Order S) (f : Form R) (bs : List ℕ) where
       let s = block_says o f bs n at (a.0 - at) low b.0 b.1 in
       let rest : List (AcceptedJob S R) = stated_jobs o f bs (dir + 8) (at + stated_length bs dir) j in
       plays j (dir + 8) (at + stated_length bs dir) n end b.0.stamp (subst (λ (i : ℕ). read_blocks o f bs n (dir + 8) i b.0.stamp j ≡ Ok end) (sym ex) b.2) m (omega arith)
-      (block_played f bs at vs) (block_length_kept at vs ∙ l) (after_job (stated_job o f bs at s.stamp) standing) (block_shows at n (a.0 - at) vs standing s (omega arith) l h s.stamp) x
+      (block_played f bs at vs) (block_length_kept at vs ∙ l) (after_job (stated_job o f bs at s.stamp) standing) (block_shows at n (a.0 - at) low b.0 vs standing s (omega arith) l h s.stamp) x
       ∙ ap (λ u. value_at (played standing (take (suc m) (seen_job o f bs at u rest))) x) (sym s.stamped)
 
 module _ {S R : Type 0} (o : Order S) (k : RecordKind R) (bs : List ℕ) where
   -- what the heading states, the opening values and the blocks of an archive that was read
   pub record ArchiveSays (h : Heading) : Type 0 where
     pub heading : record { records = stated_records bs; jobs = stated_count bs } ≡ h
+    pub some_records : 1 ≤ stated_records bs
+    pub few_records : stated_records bs ≤ 1024
+    pub few_jobs : stated_count bs ≤ 4096
     pub values : read_values k.form bs (20 + 8 * stated_count bs) 12 (stated_records bs) ≡ Ok tt
     pub end : ℕ
     pub blocks : read_blocks o k.form bs (stated_records bs) 20 (20 + 8 * stated_count bs + 12 * stated_records bs) o.least (stated_count bs) ≡ Ok end
 
-  heading_says : (h : Heading) → read_heading o.number k.number bs ≡ Ok h → record { records = stated_records bs; jobs = stated_count bs } ≡ h
+  heading_says : (h : Heading) → read_heading o.number k.number bs ≡ Ok h → (sizes_right (drop 6 bs) ≡ true) × (record { records = stated_records bs; jobs = stated_count bs } ≡ h)
   heading_says h q =
       let a = guarded (leb 6 (length bs) && (mark_right bs && kinds_right o.number k.number bs)) (read_sizes (drop 6 bs)) HeadingWrong h q in
       let b = guarded (sizes_right (drop 6 bs)) (Ok (record { records = stated_records bs; jobs = stated_count bs })) HeadingWrong h a.1 in
-      ok_same _ _ b.1
+      (b.0, ok_same _ _ b.1)
 
   -- what was read behind the heading
   abbrev Rest : Heading → Heading → Type 0
@@ -111,11 +115,23 @@ module _ {S R : Type 0} (o : Order S) (k : RecordKind R) (bs : List ℕ) where
   pub archive_says : (h : Heading) → read_archive o k bs ≡ Ok h → ArchiveSays h
   archive_says h q =
       let hd = bound (read_heading o.number k.number bs) _ h q in
-      let r : Rest (record { records = stated_records bs; jobs = stated_count bs }) h = subst (λ (z : Heading). Rest z h) (sym (heading_says hd.0 hd.1)) hd.2 in
+      let hs = heading_says hd.0 hd.1 in
+      let s0 = and_parts (leb 6 (length (drop 6 bs))) _ hs.0 in
+      let s1 = and_parts (leb 1 (stated_records bs)) _ s0.1 in
+      let s2 = and_parts (leb (stated_records bs) 1024) (leb (stated_count bs) 4096) s1.1 in
+      let r : Rest (record { records = stated_records bs; jobs = stated_count bs }) h = subst (λ (z : Heading). Rest z h) (sym hs.1) hd.2 in
       let d = bound (read_directory bs (stated_records bs) (stated_count bs)) _ h r in
       let v = bound (read_values k.form bs (20 + 8 * stated_count bs) 12 (stated_records bs)) _ h d.2 in
       let b = bound (read_blocks o k.form bs (stated_records bs) 20 (20 + 8 * stated_count bs + 12 * stated_records bs) o.least (stated_count bs)) _ h v.2 in
-      record { heading = ok_same _ _ b.2; values = v.1; end = b.0; blocks = b.1 }
+      record {
+        heading = ok_same _ _ b.2;
+        some_records = leb-true _ _ s1.0;
+        few_records = leb-true _ _ s2.0;
+        few_jobs = leb-true _ _ s2.1;
+        values = v.1;
+        end = b.0;
+        blocks = b.1;
+      }
 
   pub plays_at : (h : Heading) (space : List R) (m : ℕ) → read_archive o k bs ≡ Ok h → length space ≡ h.records → m ≤ h.jobs
       → Shows (play_leaves k.form bs (read_archive o k bs) space m) (played (at_opening o (stated_opening o k bs)) (take m (stated_journal o k bs)))
