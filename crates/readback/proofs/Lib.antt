@@ -11,6 +11,7 @@ pub mod BackDown
 pub mod Back
 pub mod NamesSay
 pub mod JobsSay
+pub mod Accepted
 pub mod Tickets
 pub mod RunsSound
 pub mod PutsOver

@@ -1,3 +1,4 @@
 pub mod Sound
 pub mod ReadsBack
+pub mod Accepted
 pub mod PlaysBack

@@ -1,4 +1,5 @@
-// Reading back: what is laid down of a run is accepted, and states what was laid down.
+// Reading back: bytes are accepted exactly when they are laid down of sound values and jobs, and state what was laid down.
+// What is laid down of a run is so.
 
 #![tactic(auto)]
 
