@@ -35,15 +35,18 @@ fn sizes(rest: &[u8]) -> Result<Heading, Fault>
     })
 }
 
+// The mark with which an archive begins.
+pub const MARK: [u8; 4] = *b"ASJ1";
+
 // Reads the heading: the mark, the two kinds, the number of records and that of jobs.
 pub(crate) fn read_heading<S: Stamp, R: Record>(bytes: &[u8]) -> Result<Heading, Fault>
     ensures answer { result ≡ read_heading S.Stamp.kind.order.number R.Record.kind.number bytes.now }
     ensures within { IfOk result Limited }
 {
-    let [b'A', b'S', b'J', b'1', stamps, values, rest @ ..] = bytes else {
+    let [a, s, j, one, stamps, values, rest @ ..] = bytes else {
         return Err(Fault::HeadingWrong);
     };
-    if *stamps != S::number() || *values != R::number() {
+    if [*a, *s, *j, *one] != MARK || *stamps != S::number() || *values != R::number() {
         return Err(Fault::HeadingWrong);
     }
     sizes(rest)

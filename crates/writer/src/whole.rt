@@ -10,6 +10,7 @@ ghost use Rattle.writer.specs.Jobs.{lengths_of, whole_of};
 use crate::journal::{lay_blocks, lay_pair, lay_pairs};
 use crate::laying::{Part, Pen, lay_each};
 use crate::numbers::{four, two};
+use archive::heading::MARK;
 use kinds::stamp::Stamp;
 use kinds::value::Record;
 use model::entry::Entry;
@@ -20,7 +21,7 @@ fn lay_heading<S: Stamp, R: Record>(pen: &mut Pen<'_>, records: usize, jobs: usi
     requires { HasRoom pen.old 12 }
     ensures { Lays pen.old (heading_bytes S.Stamp.kind.order.number R.Record.kind.number records jobs) pen.new }
 {
-    pen.lay(b"ASJ1");
+    pen.lay(&MARK);
     pen.lay(&[S::number(), R::number()]);
     pen.lay(&two(records));
     pen.lay(&four(jobs));
