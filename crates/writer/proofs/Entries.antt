@@ -1,5 +1,5 @@
 -- Looks and puts laid one after the other.
-use Rattle.std.proofs.Common.{◌≡◌, ℕ, ◌+◌, ◌≤◌, Bool, true, false, cond, List, [], ◌∷◌, ◌++◌, map, length, Some, sym, refl, ap, ◌∙◌, arith}
+use Rattle.std.proofs.Common.{◌≡◌, ℕ, ◌+◌, ◌≤◌, Bool, true, false, cond, List, [], ◌∷◌, ◌++◌, map, length, Some, Option, sym, refl, ap, ◌∙◌, arith}
 use Rattle.std.specs.Prelude.{count_by}
 use Rattle.std.specs.List.{flat_map}
 use Rattle.std.proofs.lemmas.List.Recursion.{is_count_by}
@@ -72,8 +72,8 @@ module _ {S R : Type 0} where
   puts_few es = let l = count_by-le-length (λ e. e.put) es in omega (arith, puts_counted es)
 
 -- the length of a block of few looks and puts is listed
-pub listed_some : (r p : ℕ) → r ≤ 16 → p ≤ 16 → length_listed r p ≡ Some (block_length r p)
-listed_some r p h k = simp (le-leb r 16 h, le-leb p 16 k)
+pub listed_some : (n : Option ℕ) (r p : ℕ) → r ≤ 16 → p ≤ 16 → n ≡ length_listed r p → n ≡ Some (block_length r p)
+listed_some n r p h k e = e ∙ simp (le-leb r 16 h, le-leb p 16 k)
 
 -- a block is its first 16 bytes, its looks and its puts
 module _ {S R : Type 0} (o : Order S) (f : Form R) (s : S) (ticket : ℕ) (es : List (Entry S R)) where
