@@ -19,7 +19,7 @@ use Rattle.archive.specs.Journal.{stated_job, seen_job, stated_jobs, stated_reco
 use Rattle.archive.proofs.Fields.{guarded, bound, ok_same}
 use Rattle.archive.proofs.KnownBlocks.{block_met}
 use Rattle.reader.specs.Readable.{Readable}
-use Rattle.reader.proofs.Lists.{values_long}
+use Rattle.reader.proofs.Lengths.{values_long}
 
 -- the pair of a part: where it starts, and that it ends within the archive
 record PairMet (bs : List ℕ) (at from end : ℕ) : Type 0 where
@@ -82,7 +82,12 @@ module _ {S R : Type 0} (o : Order S) (f : Form R) (bs : List ℕ) where
         next = a.0;
         pair = p;
         first = job_first o f bs at (stamp_at o bs at) k.stamp (stated_jobs o f bs (dir + 8) (at + stated_length bs dir) m) k.stands;
-        readable = (omega (arith, p.ends, p.within, k.long), k.noted, subst Seen x k.seen, subst Put y k.put);
+        readable =
+            record {
+              front = omega (arith, p.ends, p.within, k.long);
+              looks = record { within = omega (arith, p.ends, p.within, k.long); noted = k.noted; valued = subst Seen x k.seen };
+              puts = record { within = omega (arith, p.ends, p.within, k.long); valued = subst Put y k.put };
+            };
         low = b.0.stamp;
         rest = subst P (sym p.ends) b.2;
       }

@@ -1,3 +1,4 @@
 pub mod Stated
 pub mod Readable
 pub mod Shown
+pub mod Rebuilt

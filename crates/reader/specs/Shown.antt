@@ -6,16 +6,15 @@ use Rattle.kinds.specs.Forms.{Form}
 use Rattle.kinds.specs.Stamps.{Order}
 use Rattle.law.specs.Daybook as daybook
 use Rattle.archive.specs.Blocks.{stamp_at}
-use Rattle.reader.specs.declared.job.Look.{Look}
-use Rattle.reader.specs.declared.job.Put.{Put}
+use Rattle.reader.specs.declared.looks.Look.{Look}
+use Rattle.reader.specs.declared.puts.Put.{Put}
 
-module _ {S R : Type 0} where
-  abbrev pub look_shown : daybook.Look S R → Look S R
-  look_shown l = record { number = l.number; stamp = l.saw.stamp; value = l.saw.value }
+-- the look and the put of the daybook that is shown
+abbrev pub noted_look : {S R : Type 0} → Look S R → daybook.Look S R
+noted_look l = record { number = l.number; saw = record { value = l.value; stamp = l.stamp } }
 
-module _ {R : Type 0} where
-  abbrev pub put_shown : daybook.Put R → Put R
-  put_shown p = record { number = p.number; value = p.value }
+abbrev pub entered_put : {R : Type 0} → Put R → daybook.Put R
+entered_put p = record { number = p.number; value = p.value }
 
 -- the look and the put at a place
 module _ {S R : Type 0} where

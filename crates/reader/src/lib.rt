@@ -4,4 +4,8 @@
 
 mod forms;
 pub mod job;
+pub mod looks;
+pub mod puts;
 pub mod reader;
+#[cfg(test)]
+mod tests;

@@ -6,14 +6,17 @@ ghost use Rattle.archive.specs.declared.fault.Fault.TheVariants.{SpaceWrong};
 ghost use Rattle.archive.specs.Values.{read_values, stated_values};
 ghost use Rattle.archive.specs.Journal.{archive_bytes};
 ghost use Rattle.reader.specs.Stated.{stated, read_stated, fill_answer, filled};
+ghost use Rattle.reader.specs.Rebuilt.{with_puts, rebuild_answer, rebuild_leaves};
 
 use crate::forms::{number_at, value};
 use crate::job::Job;
+use crate::puts::Puts;
 use archive::fault::Fault;
 use archive::inspect::checked;
 use archive::whole::Archive;
 use kinds::stamp::Stamp;
 use kinds::value::Record;
+use model::tables::store;
 use std::marker::{Model, PhantomData};
 
 // An archive whose heading, directory, opening values and blocks are right. A clause sees what it states.
@@ -48,6 +51,15 @@ fn load<R: Record>(bytes: &[u8], at: usize, space: &mut [R]) -> Result<(), Fault
         *place = value(bytes, at + 12 * i)?;
     }
     Ok(())
+}
+
+// Enters puts in turn.
+fn enter<S: Stamp, R: Record>(puts: Puts<'_, S, R>, space: &mut [R])
+    ensures { space.new ≡ with_puts space.old puts.entry }
+{
+    for put in puts {
+        store(space, put.number, put.value);
+    }
 }
 
 impl<'a, S: Stamp, R: Record> Reader<'a, S, R> {
@@ -99,5 +111,20 @@ impl<'a, S: Stamp, R: Record> Reader<'a, S, R> {
         }
         let at = number_at(archive.bytes, 20 + 8 * k) as usize;
         Job::read(archive.bytes, at).ok_or(Fault::SpaceWrong)
+    }
+
+    // Fills a space of as many values as there are records with those that stand after the first m jobs.
+    pub fn rebuild(&self, m: usize, space: &mut [R]) -> Result<(), Fault>
+        ensures answer { result ≡ rebuild_answer self.now m space.old }
+        ensures leaves { space.new ≡ rebuild_leaves self.now m space.old }
+    {
+        if m > self.jobs() {
+            return Err(Fault::SpaceWrong);
+        }
+        self.opening(space)?;
+        for k in 0..m {
+            enter(self.job(k)?.puts(), space);
+        }
+        Ok(())
     }
 }
