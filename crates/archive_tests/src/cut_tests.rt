@@ -1,0 +1,58 @@
+// Archives that are cut off, and archives with bytes left over.
+use crate::tables::{NO_JOB, ONE_JOB, THREE_JOBS, numbered};
+use archive::inspect::inspect;
+use kinds::card::Card;
+use kinds::item::Item;
+use kinds::volume::VolumePage;
+use kinds::whole::Whole;
+use std::test::Fail;
+
+// The fault of each cut. A cut heading is 14. Behind it the first pair whose part is cut is 15: that of the opening
+// values for each cut before their end, the directory's too.
+fn cut(length: usize, ends: &[usize]) -> (u8, Option<usize>) {
+    if length < 12 {
+        return (14, Some(0));
+    }
+    let whole = ends.iter().filter(|end| **end <= length).count();
+    (15, Some(whole.saturating_mul(8).saturating_add(12)))
+}
+
+#[test]
+fn cuts(rt: HostRuntime) {
+    for length in 0..32 {
+        let answer = numbered(inspect::<Whole, Card>(&NO_JOB[..length]));
+        assert_eq!(rt; answer, Err(cut(length, &[32])), "{length} bytes");
+    }
+    for length in 0..104 {
+        let answer = numbered(inspect::<Whole, Card>(&ONE_JOB[..length]));
+        assert_eq!(rt; answer, Err(cut(length, &[52, 104])), "{length} bytes");
+    }
+    for length in 0..236 {
+        let answer = numbered(inspect::<VolumePage, Item>(&THREE_JOBS[..length]));
+        assert_eq!(rt;
+            answer,
+            Err(cut(length, &[80, 154, 198, 236])),
+            "{length} bytes"
+        );
+    }
+}
+
+// Bytes left over count against the last pair.
+#[test]
+fn left_over(rt: HostRuntime) -> Result<(), Fail> {
+    for more in [1, 12, 100] {
+        let mut bytes = NO_JOB.to_vec(rt.alloc())?;
+        bytes.resize(32 + more, 0)?;
+        assert_eq!(rt;
+            numbered(inspect::<Whole, Card>(&bytes)),
+            Err((15, Some(12)))
+        );
+        let mut bytes = THREE_JOBS.to_vec(rt.alloc())?;
+        bytes.resize(236 + more, 0)?;
+        assert_eq!(rt;
+            numbered(inspect::<VolumePage, Item>(&bytes)),
+            Err((15, Some(36)))
+        );
+    }
+    Ok(())
+}
