@@ -1,5 +1,5 @@
 -- What is laid down is accepted, and states what was laid down, stamps and values up to counting alike.
-use Rattle.std.specs.Prelude.{◌≡◌, List, [], ◌∷◌, length, Ok}
+use Rattle.std.specs.Prelude.{◌≡◌, ℕ, List, [], ◌∷◌, length, Ok}
 use Rattle.kinds.specs.Forms.{Form, Alike}
 use Rattle.kinds.specs.Stamps.{Order, Kind, Same}
 use Rattle.kinds.specs.Values.{RecordKind}
@@ -37,18 +37,26 @@ module _ {S R : Type 0} (o : Order S) (f : Form R) where
     pub puts : Each (AlikePut f) a.puts b.puts
 
 module _ {S R : Type 0} (o : Order S) (k : RecordKind R) where
-  pub record ReadsBack (values : List R) (jobs : List (AcceptedJob S R)) : Type 0 where
-    pub accepted : inspected o k (archive_bytes o k values jobs) ≡ Ok (length jobs)
-    pub opening : Each (Alike k.form) (stated_opening o k (archive_bytes o k values jobs)) values
-    pub journal : Each (AlikeJob o k.form) (stated_journal o k (archive_bytes o k values jobs)) jobs
+  -- bytes that are accepted, and state these values and these jobs
+  pub record States (bs : List ℕ) (values : List R) (jobs : List (AcceptedJob S R)) : Type 0 where
+    pub accepted : inspected o k bs ≡ Ok (length jobs)
+    pub opening : Each (Alike k.form) (stated_opening o k bs) values
+    pub journal : Each (AlikeJob o k.form) (stated_journal o k bs) jobs
+
+  abbrev pub ReadsBack : List R → List (AcceptedJob S R) → Type 0
+  ReadsBack values jobs = States (archive_bytes o k values jobs) values jobs
 
   -- whatever is sound reads back
   abbrev pub SoundReadsBack : Type 0
   SoundReadsBack = (values : List R) (jobs : List (AcceptedJob S R)) → Sound o k.form values jobs → ReadsBack values jobs
 
 module _ {S R : Type 0} (k : Kind S) (r : RecordKind R) where
-  -- whichever run led to a registry: what is laid down of it reads back
-  abbrev pub RunReadsBack : Registry S R → Type 0
-  RunReadsBack g =
+  -- whichever run led to a registry: the bytes state its opening values and its journal
+  abbrev pub RunStatedBy : List ℕ → Registry S R → Type 0
+  RunStatedBy bs g =
       (values : List R) (brought : Registry S R) → (found k.order values brought).answer ≡ Ok tt → (calls : List (Call S R)) →
-      (run k calls (start k values brought)).desk.registry ≡ g → ReadsBack k.order r g.opening (journal_of g)
+      (run k calls (start k values brought)).desk.registry ≡ g → States k.order r bs g.opening (journal_of g)
+
+  -- what is laid down of a registry does
+  abbrev pub RunReadsBack : Registry S R → Type 0
+  RunReadsBack g = RunStatedBy (archive_bytes k.order r g.opening (journal_of g)) g

@@ -1,7 +1,8 @@
 // Writes the archive of a registrar.
-ghost use Rattle.std.specs.Prelude.{◌≡◌};
+ghost use Rattle.std.specs.Prelude.{◌≡◌, take, IfOk};
 ghost use Rattle.registrar.specs.Registry.{tables_sized};
 ghost use Rattle.law.specs.HandOver.{registry_in_books};
+ghost use Rattle.readback.specs.ReadsBack.{RunStatedBy};
 ghost use Rattle.writer.specs.Written.{archive_size, written, writing_as};
 
 use crate::journal::blocks_len;
@@ -56,12 +57,15 @@ fn lay_down<S: Stamp, R: Record>(
 }
 
 // Writes the archive of a registrar's opening values and its journal at the front of a space, and answers its
-// length. The rest of the space keeps its content.
+// length. The rest of the space keeps its content. Whichever run led to these books, inspect accepts what was
+// written, with the number of jobs as its answer, and it states these opening values and this journal, stamps and
+// values up to counting alike.
 pub fn write<S: Stamp, R: Record>(
     books: Books<'_, S, R>,
     space: &mut [u8],
 ) -> Result<usize, Unwritten>
     ensures answer { writing_as result space.new ≡ written S.Stamp.kind.order R.Record.kind (registry_in_books books.entry) space.old }
+    ensures read_back { IfOk result (λ n. RunStatedBy S.Stamp.kind R.Record.kind (take n space.new) (registry_in_books books.entry)) }
 {
     lay_down(books, space)
 }
