@@ -184,7 +184,7 @@ module _ {S R : Type 0} (k : Kind S) (laws : Lawful k) (values : List R) (d : De
             few = z.few;
           };
           waiting = ap (map laid_of) (sym now);
-          journal = subst (λ (z : List (AcceptedJob S R)). FinalOrder k.order more z) (sym (journal_taken k g w s h.sized room ok.few h.placed)) (final_enter k.order laws.ordered new jobs (journal_of g) h.journal);
+          journal = subst (λ (z : List (AcceptedJob S R)). FinalOrder k.order more z) (sym (journal_taken k g w s h.sized room ok.few h.placed laws.ordered h.journal.serial.never_falls)) (final_enter k.order laws.ordered new jobs (journal_of g) h.journal);
           placed = placed_taken k g w s h.sized room ok.few h.placed;
         }
       where

@@ -8,7 +8,7 @@ use Rattle.model.specs.declared.verdict.Verdict.{Verdict}
 use Rattle.model.specs.Tables.{lawful_size, sized}
 use Rattle.station.specs.Station.{Station, work_of}
 use Rattle.registrar.specs.Deciding.{Waiting}
-use Rattle.registrar.specs.Registry.{Registry, tables_sized, registry_sized, founded, submitted, next_place, entered, passed_over, taken_up, cleared}
+use Rattle.registrar.specs.Registry.{Registry, tables_sized, registry_sized, founded, submitted, next_place, all_after, entered, passed_over, taken_up, cleared}
 use Rattle.model.proofs.Laid.{length-laid, length-laid_from}
 use Rattle.law.proofs.RowLaws.{length-rows_after, length-firsts_after, length-founded}
 
@@ -121,7 +121,7 @@ module _ {S R : Type 0} where
 -- a head entered makes one more
 pub length-entered : {S : Type 0} (o : Order S) (h : Head S) (js : List (Head S)) → length (entered o h js) ≡ length js + 1
 length-entered o h [] = refl
-length-entered o h (j ∷ js) = go (o.before h.stamp j.stamp) (length-entered o h js)
+length-entered o h (j ∷ js) = go (all_after o h.stamp (j ∷ js)) (length-entered o h js)
   where
     go : (t : Bool) → length (entered o h js) ≡ length js + 1 → length (cond t (h ∷ j ∷ js) (j ∷ entered o h js)) ≡ length (j ∷ js) + 1
     go true e = omega arith

@@ -1,5 +1,6 @@
 -- What a call leaves, put together from the registrar's numbers and the tables that were handed in.
-use Rattle.std.specs.Prelude.{◌≡◌, ℕ, suc, ◌*◌, ◌≤◌, cond, List, [], ◌∷◌, length, Ok, Err, Option, Result}
+use Rattle.std.specs.Prelude.{◌≡◌, ℕ, ◌-◌, ◌*◌, ◌≤◌, List, length, Ok, Err, Option, Result}
+use Rattle.std.specs.List.{suffix_len}
 use Rattle.kinds.specs.Stamps.{Order}
 use Rattle.std.specs.Borrow.{MutBor}
 use Rattle.model.specs.declared.entry.Entry.{Entry}
@@ -99,10 +100,9 @@ handed_in j s = record { answer = or_job j s.answer; registry = s.registry }
 abbrev pub station_of : {S R : Type 0} → Job S → List (Entry S R) → Station S R
 station_of j sheet = record { job = j; sheet = sheet }
 
--- how many heads stand before the first whose stamp is after the given one
+-- how many heads there are but for those at the end whose stamps are all after the given one
 abbrev pub ahead : {S : Type 0} → Order S → S → List (Head S) → ℕ
-ahead o s [] = 0
-ahead o s (j ∷ js) = cond (o.before s j.stamp) 0 (suc (ahead o s js))
+ahead {S} o s js = length js - suffix_len (λ (j : Head S). o.before s j.stamp) js
 
 -- what a verdict comes to: with a stamp where it accepts, else as it is
 abbrev pub by_stamp : {S A : Type 0} → Verdict S → A → (S → A) → A

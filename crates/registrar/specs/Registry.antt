@@ -1,6 +1,6 @@
 -- The registrar with its tables, and what found, submit, decide, publish, settle and waive do.
 use Rattle.std.specs.Prelude.{ℕ, zero, suc, ◌+◌, ◌-◌, ◌*◌, ◌%◌, min, Bool, true, false, cond, not, ◌&&◌, List, [], ◌∷◌, ◌++◌, length, take, drop, replicate, Some, None, Ok, Err, Option, Result, ◌==◌, nat_le, slice_set}
-use Rattle.std.specs.List.{slice_get}
+use Rattle.std.specs.List.{slice_get, list_all}
 use Rattle.kinds.specs.Stamps.{Order, Kind}
 use Rattle.model.specs.declared.entry.Entry.{Entry}
 use Rattle.model.specs.declared.row.Row.{Row}
@@ -145,10 +145,14 @@ module _ {S R : Type 0} where
 
 -- The journal: in final order, each job's lines at the place where they were first written.
 module _ {S : Type 0} (o : Order S) where
+  -- whether some jobs all have stamps after the given one
+  abbrev pub all_after : S → List (Head S) → Bool
+  all_after s js = list_all (λ (j : Head S). o.before s j.stamp) js
+
   -- behind every job whose stamp is not after
   abbrev pub entered : Head S → List (Head S) → List (Head S)
   entered h [] = h ∷ []
-  entered h (j ∷ js) = cond (o.before h.stamp j.stamp) (h ∷ j ∷ js) (j ∷ entered h js)
+  entered h (j ∷ js) = cond (all_after h.stamp (j ∷ js)) (h ∷ j ∷ js) (j ∷ entered h js)
 
 -- the queue without its oldest, and one outcome more
 abbrev pub decided_own : Registrar → ℕ → Registrar

@@ -17,15 +17,18 @@ pub struct Head<S> {
     pub count: usize,
 }
 
-// How many heads stand before the first whose stamp is after the given one.
+// How many heads there are but for those at the end whose stamps are all after the given one. It goes from the end, so
+// that it costs no more than the shift that follows.
 fn place_of<S: Stamp>(heads: &[Head<S>], stamp: S) -> usize
     ensures place { result ≡ ahead S.Stamp.kind.order stamp heads.now }
     ensures within { result ≤ length heads.now }
 {
-    heads
+    let behind = heads
         .iter()
-        .take_while(|head| !before(stamp, head.stamp))
-        .count()
+        .rev()
+        .take_while(|head| before(stamp, head.stamp))
+        .count();
+    heads.len() - behind
 }
 
 // A head entered among the first n in final order, behind every head whose stamp is not after; those
