@@ -1,5 +1,6 @@
 -- The jobs that an archive states, found by the offsets in its directory.
-use Rattle.std.proofs.Common.{◌≡◌, ℕ, zero, suc, ◌+◌, ◌-◌, ◌*◌, ◌<◌, ◌≤◌, Bool, ◌&&◌, eqb, leb, List, length, get_or, drop, Some, None, Ok, Option, refl, sym, ap, ◌∙◌, subst, mul-zero, mul-suc, arith}
+use Rattle.std.proofs.Common.{◌≡◌, ℕ, zero, suc, ◌+◌, ◌-◌, ◌*◌, ◌<◌, ◌≤◌, Bool, ◌&&◌, eqb, leb, List, length, get_or, take, drop, Some, None, Ok, Option, refl, sym, ap, ◌∙◌, subst, mul-zero, mul-suc, arith}
+use Rattle.std.specs.Prelude.{fold}
 use Rattle.std.specs.List.{slice_get}
 use Rattle.std.specs.Option.{option_map}
 use Rattle.std.proofs.lemmas.Bool.{and_parts, leb-true, eqb-true}
@@ -15,14 +16,15 @@ use Rattle.archive.specs.Directory.{stated_length, pair_right, read_pair, read_d
 use Rattle.archive.specs.Values.{read_values, stated_values}
 use Rattle.archive.specs.Blocks.{stamp_at, read_block, read_blocks}
 use Rattle.archive.specs.Rule.{read_archive}
-use Rattle.archive.specs.Journal.{stated_job, seen_job, stated_jobs, stated_records, stated_count, stated_opening, stated_journal}
+use Rattle.archive.specs.Journal.{stated_job, seen_job, stated_jobs, stated_puts, stated_records, stated_count, stated_opening, stated_journal}
 use Rattle.archive.proofs.Fields.{guarded, bound, ok_same}
 use Rattle.archive.proofs.KnownBlocks.{block_met}
 use Rattle.reader.specs.Readable.{Readable}
+use Rattle.reader.specs.Rebuilt.{with_puts, with_job}
 use Rattle.reader.proofs.Lengths.{values_long}
 
 -- the pair of a part: where it starts, and that it ends within the archive
-record PairMet (bs : List ℕ) (at from end : ℕ) : Type 0 where
+pub record PairMet (bs : List ℕ) (at from end : ℕ) : Type 0 where
   pub starts : number4 (part bs at 4) ≡ from
   pub ends : from + stated_length bs at ≡ end
   pub within : end ≤ length bs
@@ -39,13 +41,15 @@ pair_met bs at from end last q =
 
 -- a job in front of others
 module _ {S R : Type 0} (o : Order S) (f : Form R) (bs : List ℕ) where
-  record JobFirst (at : ℕ) (u0 : Option S) (js : List (AcceptedJob S R)) : Type 0 where
+  pub record JobFirst (at : ℕ) (u0 : Option S) (js : List (AcceptedJob S R)) : Type 0 where
     pub long : length (seen_job o f bs at u0 js) ≡ suc (length js)
     pub front : slice_get (seen_job o f bs at u0 js) zero ≡ option_map (stated_job o f bs at) u0
     pub behind : (i : ℕ) → slice_get (seen_job o f bs at u0 js) (suc i) ≡ slice_get js i
+    pub played : (vs : List R) (i : ℕ) → fold with_job vs (take (suc i) (seen_job o f bs at u0 js))
+        ≡ fold with_job (with_puts vs (stated_puts o f bs (at + 16 + 22 * get_or bs (at + 12) 0) (get_or bs (at + 13) 0))) (take i js)
 
   job_first : (at : ℕ) (u0 : Option S) (s : S) (js : List (AcceptedJob S R)) → u0 ≡ Some s → JobFirst at u0 js
-  job_first at (Some t) s js e = record { long = refl; front = refl; behind = λ i. refl }
+  job_first at (Some t) s js e = record { long = refl; front = refl; behind = λ i. refl; played = λ vs i. refl }
   job_first at None s js e = let z : ◌≡◌ {A = ℕ} 0 1 = cc in absurd (omega arith)
 
 module _ {S R : Type 0} (o : Order S) (f : Form R) (bs : List ℕ) where
@@ -58,7 +62,7 @@ module _ {S R : Type 0} (o : Order S) (f : Form R) (bs : List ℕ) where
     pub found_is : found ≡ option_map (stated_job o f bs at) (stamp_at o bs at)
 
   -- the first of the blocks, and those behind it
-  record BlocksMet (dir at n m end : ℕ) : Type 0 where
+  pub record BlocksMet (dir at n m end : ℕ) : Type 0 where
     pub next : ℕ
     pub pair : PairMet bs dir at next
     pub first : JobFirst o f bs at (stamp_at o bs at) (stated_jobs o f bs (dir + 8) (at + stated_length bs dir) m)
@@ -66,7 +70,7 @@ module _ {S R : Type 0} (o : Order S) (f : Form R) (bs : List ℕ) where
     pub low : S
     pub rest : read_blocks o f bs n (dir + 8) (at + stated_length bs dir) low m ≡ Ok end
 
-  blocks_met : (dir at n m end : ℕ) (low : S) → read_blocks o f bs n dir at low (suc m) ≡ Ok end → BlocksMet dir at n m end
+  pub blocks_met : (dir at n m end : ℕ) (low : S) → read_blocks o f bs n dir at low (suc m) ≡ Ok end → BlocksMet dir at n m end
   blocks_met dir at n m end low q =
       let a = bound (read_pair bs dir at (eqb m 0)) _ end q in
       let p = pair_met bs dir at a.0 (eqb m 0) a.1 in
@@ -146,11 +150,13 @@ module _ {S R : Type 0} (o : Order S) (k : RecordKind R) (bs : List ℕ) where
   abbrev jobs_in : Heading → List (AcceptedJob S R)
   jobs_in x = stated_jobs o k.form bs 20 (20 + 8 * x.jobs + 12 * x.records) x.jobs
 
+  pub journal_is : (h : Heading) → read_archive o k bs ≡ Ok h → stated_journal o k bs ≡ jobs_in h
+  journal_is h q = ap jobs_in (archive_met h q).headed
+
   pub journal_long : (h : Heading) → read_archive o k bs ≡ Ok h → length (stated_journal o k bs) ≡ h.jobs
   journal_long h q =
       let m = archive_met h q in
-      let F : Heading → ℕ = λ x. length (jobs_in x) in
-      ap F m.headed ∙ jobs_long o k.form bs h.jobs 20 (20 + 8 * h.jobs + 12 * h.records) h.records m.end o.least m.blocks
+      ap length (journal_is h q) ∙ jobs_long o k.form bs h.jobs 20 (20 + 8 * h.jobs + 12 * h.records) h.records m.end o.least m.blocks
 
   -- the job of a number stands where its pair says
   pub job_found : (h : Heading) (i : ℕ) → read_archive o k bs ≡ Ok h → i < h.jobs → JobTold o k.form bs (number4 (part bs (20 + 8 * i) 4)) (slice_get (stated_journal o k bs) i)

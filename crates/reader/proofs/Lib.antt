@@ -1,2 +1,3 @@
 mod Lengths
 mod Journal
+mod Rebuilding

@@ -1,8 +1,12 @@
 -- The values at a place of the journal.
-use Rattle.std.specs.Prelude.{ℕ, Bool, cond, ◌&&◌, List, length, take, fold, slice_set, Ok, Err, Result, ◌==◌, nat_le}
+use Rattle.std.specs.Prelude.{◌≡◌, ℕ, Bool, cond, ◌&&◌, List, length, take, fold, slice_set, Ok, Err, Result, ◌==◌, nat_le}
+use Rattle.kinds.specs.Stamps.{Order}
+use Rattle.kinds.specs.Values.{RecordKind}
 use Rattle.law.specs.Daybook.{Put, AcceptedJob}
 use Rattle.archive.specs.declared.fault.Fault.{Fault}
 use Rattle.archive.specs.declared.fault.Fault.TheVariants.{SpaceWrong}
+use Rattle.archive.specs.Rule.{read_archive}
+use Rattle.archive.specs.Played.{play_leaves}
 use Rattle.reader.specs.Stated.{Stated}
 
 -- a put stands in place of the value before
@@ -29,3 +33,7 @@ module _ {S R : Type 0} where
 
   abbrev pub rebuild_leaves : Stated S R → ℕ → List R → List R
   rebuild_leaves s m space = cond (can_rebuild s m space) (rebuilt s m) space
+
+-- what play leaves of an archive is what is rebuilt, at every place and in every space
+abbrev pub PlaysAs : {S R : Type 0} → Order S → RecordKind R → List ℕ → Stated S R → Type 0
+PlaysAs {S} {R} o k bs s = (m : ℕ) (space : List R) → play_leaves k.form bs (read_archive o k bs) space m ≡ rebuild_leaves s m space

@@ -6,7 +6,7 @@ ghost use Rattle.archive.specs.declared.fault.Fault.TheVariants.{SpaceWrong};
 ghost use Rattle.archive.specs.Values.{read_values, stated_values};
 ghost use Rattle.archive.specs.Journal.{archive_bytes};
 ghost use Rattle.reader.specs.Stated.{stated, read_stated, fill_answer, filled};
-ghost use Rattle.reader.specs.Rebuilt.{with_puts, rebuild_answer, rebuild_leaves};
+ghost use Rattle.reader.specs.Rebuilt.{PlaysAs, with_puts, rebuild_answer, rebuild_leaves};
 
 use crate::forms::{number_at, value};
 use crate::job::Job;
@@ -63,10 +63,12 @@ fn enter<S: Stamp, R: Record>(puts: Puts<'_, S, R>, space: &mut [R])
 }
 
 impl<'a, S: Stamp, R: Record> Reader<'a, S, R> {
-    // Checks the bytes as inspect does, but for the play, once for all.
+    // Checks the bytes as inspect does, but for the play, once for all. What is then read is all that the bytes
+    // say, and what play leaves of them.
     pub fn open(bytes: &'a [u8]) -> Result<Reader<'a, S, R>, Fault>
         ensures answer { result ≡ read_stated S.Stamp.kind.order R.Record.kind bytes.now }
         ensures one_form { IfOk result (λ r. bytes.now ≡ archive_bytes S.Stamp.kind.order R.Record.kind r.opening r.journal) }
+        ensures plays { IfOk result (PlaysAs S.Stamp.kind.order R.Record.kind bytes.now) }
     {
         let archive = checked::<S, R>(bytes)?;
         Ok(Reader {
