@@ -106,3 +106,26 @@ fn a_fault_keeps_its_place(rt: HostRuntime) {
         Some(Fault::HeadingWrong)
     );
 }
+
+// The values that stood just before the job of a ticket, and the stamp of that job.
+fn as_seen(bytes: &[u8], ticket: u32, values: &mut [Card]) -> Result<Option<Whole>, Fault> {
+    let reader = Reader::<Whole, Card>::open(bytes)?;
+    for k in 0..reader.jobs() {
+        let job = reader.job(k)?;
+        if job.ticket() == ticket {
+            reader.rebuild(k, values)?;
+            return Ok(Some(job.stamp()));
+        }
+    }
+    Ok(None)
+}
+
+#[test]
+fn as_a_converter_saw_it(rt: HostRuntime) -> Result<(), Fail> {
+    let mut values = [BLANK; 2];
+    let stamp = as_seen(&BYTES, 7, &mut values)?;
+    assert_eq!(rt; stamp.map(|stamp| stamp.place), Some(65536));
+    assert_eq!(rt; values, [FRAME, BRACKET]);
+    assert!(rt; as_seen(&BYTES, 8, &mut values)?.is_none());
+    Ok(())
+}
