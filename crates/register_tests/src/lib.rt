@@ -1,0 +1,13 @@
+// The refusals of every call at their bounds and in their order, and contents that no run makes, run against the
+// library.
+
+#![tactic(auto)]
+
+#[cfg(test)]
+mod bench;
+#[cfg(test)]
+mod content;
+#[cfg(test)]
+mod kinds_used;
+#[cfg(test)]
+mod sizes;
