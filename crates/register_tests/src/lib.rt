@@ -10,4 +10,6 @@ mod content;
 #[cfg(test)]
 mod kinds_used;
 #[cfg(test)]
+mod order;
+#[cfg(test)]
 mod sizes;
