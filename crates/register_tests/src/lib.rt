@@ -13,3 +13,5 @@ mod kinds_used;
 mod order;
 #[cfg(test)]
 mod sizes;
+#[cfg(test)]
+mod station_bounds;
