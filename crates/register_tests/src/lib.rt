@@ -12,6 +12,10 @@ mod kinds_used;
 #[cfg(test)]
 mod order;
 #[cfg(test)]
+mod registrar_bounds;
+#[cfg(test)]
+mod settling;
+#[cfg(test)]
 mod sizes;
 #[cfg(test)]
 mod station_bounds;
