@@ -8,6 +8,8 @@ mod bench;
 #[cfg(test)]
 mod content;
 #[cfg(test)]
+mod counts;
+#[cfg(test)]
 mod kinds_used;
 #[cfg(test)]
 mod order;
@@ -19,3 +21,5 @@ mod settling;
 mod sizes;
 #[cfg(test)]
 mod station_bounds;
+#[cfg(test)]
+mod versions;
