@@ -1,0 +1,3 @@
+pub mod Named
+pub mod Told
+pub mod Played
