@@ -62,7 +62,13 @@ mod archive_c {
     extern "C" {
         fn bozhirka_inspect(bytes: *const u8, length: usize) -> Inspected;
         fn bozhirka_read_sizes(bytes: *const u8, length: usize) -> Kinds;
-        fn bozhirka_play(bytes: *const u8, length: usize, jobs: usize, space: *mut u8, space_length: usize) -> Answer;
+        fn bozhirka_play(
+            bytes: *const u8,
+            length: usize,
+            jobs: usize,
+            space: *mut u8,
+            space_length: usize,
+        ) -> Answer;
         fn bozhirka_read_job(bytes: *const u8, length: usize, k: usize) -> Job;
         fn bozhirka_read_look(bytes: *const u8, length: usize, k: usize, i: usize) -> Look;
         fn bozhirka_read_put(bytes: *const u8, length: usize, k: usize, i: usize) -> Put;
@@ -90,7 +96,15 @@ mod archive_c {
     }
 
     pub fn play(bytes: &[u8], jobs: usize, space: &mut [u8]) -> Result<(), Answer> {
-        let answer = unsafe { bozhirka_play(bytes.as_ptr(), bytes.len(), jobs, space.as_mut_ptr(), space.len()) };
+        let answer = unsafe {
+            bozhirka_play(
+                bytes.as_ptr(),
+                bytes.len(),
+                jobs,
+                space.as_mut_ptr(),
+                space.len(),
+            )
+        };
         answered(answer, ())
     }
 
@@ -137,16 +151,28 @@ fn value_text(kind: u8, form: &[u8]) -> String {
 /// A job in a line, as a schedule's `journal` shows it.
 fn job_text(bytes: &[u8], kinds: &Kinds, k: usize) -> Result<String, Answer> {
     let job = archive_c::job(bytes, k)?;
-    let mut text = format!("{} ticket {} looks", stamp_text(kinds.stamp_kind, &job.stamp), job.ticket);
+    let mut text = format!(
+        "{} ticket {} looks",
+        stamp_text(kinds.stamp_kind, &job.stamp),
+        job.ticket
+    );
     for i in 0..job.looks {
         let look = archive_c::look(bytes, k, i)?;
         let stamp = stamp_text(kinds.stamp_kind, &look.stamp);
-        text += &format!(" {}@{stamp}={}", look.number, value_text(kinds.record_kind, &look.value));
+        text += &format!(
+            " {}@{stamp}={}",
+            look.number,
+            value_text(kinds.record_kind, &look.value)
+        );
     }
     text += " puts";
     for i in 0..job.puts {
         let put = archive_c::put(bytes, k, i)?;
-        text += &format!(" {}={}", put.number, value_text(kinds.record_kind, &put.value));
+        text += &format!(
+            " {}={}",
+            put.number,
+            value_text(kinds.record_kind, &put.value)
+        );
     }
     Ok(text)
 }
@@ -177,14 +203,20 @@ fn main() -> ExitCode {
     };
     let mut bytes = Vec::new();
     // one byte more than an archive may have, so that a longer one is seen to be too long
-    if let Err(why) = std::io::stdin().take(archive_c::LONGEST + 1).read_to_end(&mut bytes) {
+    if let Err(why) = std::io::stdin()
+        .take(archive_c::LONGEST + 1)
+        .read_to_end(&mut bytes)
+    {
         eprintln!("rebuild: {why}");
         return ExitCode::from(2);
     }
     let (text, status) = match rebuilt(&bytes, jobs) {
         Ok(text) => (text, ExitCode::SUCCESS),
         Err(Answer { number: 18, .. }) => ("refused 18\n".to_string(), ExitCode::FAILURE),
-        Err(answer) => (format!("refused {} at {}\n", answer.number, answer.place), ExitCode::FAILURE),
+        Err(answer) => (
+            format!("refused {} at {}\n", answer.number, answer.place),
+            ExitCode::FAILURE,
+        ),
     };
     match std::io::stdout().write_all(text.as_bytes()) {
         Ok(()) => status,
