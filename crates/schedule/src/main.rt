@@ -3,7 +3,7 @@
 
 #![tactic(auto)]
 
-use schedule_desk::run::run;
+use schedule_session::run::run;
 use std::io::{Read, Write};
 
 fn main(rt: HostRuntime) -> anyhow::Result<()> {

@@ -1,5 +1,7 @@
 -- What a call prints before the colon of its answer.
 use Rattle.std.specs.Prelude.{ℕ, List, ◌∷◌, ◌++◌, string_bytes, codes}
+use Rattle.schedule_calls.specs.declared.command.Archived.{Archived}
+use Rattle.schedule_calls.specs.declared.command.Archived.TheVariants.{Bytes, Inspected, Played}
 use Rattle.schedule_calls.specs.declared.command.Call.{Call}
 use Rattle.schedule_calls.specs.declared.command.Call.TheVariants.{Publish, Open, Look, Put, Tune, Submit, Decide, Settle, Waive}
 
@@ -13,3 +15,9 @@ call_text (Submit name) = codes "submit " ++ string_bytes name
 call_text Decide = codes "decide"
 call_text (Settle name image) = codes "settle " ++ string_bytes name
 call_text (Waive name) = codes "waive " ++ string_bytes name
+
+-- what a command on the archive prints before the colon
+abbrev pub archived_text : Archived → List ℕ
+archived_text Bytes = codes "archive"
+archived_text Inspected = codes "inspect"
+archived_text (Played jobs) = codes "play " ++ string_bytes jobs.digits

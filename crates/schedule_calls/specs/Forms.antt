@@ -1,7 +1,7 @@
 -- The words that a command has.
 use Rattle.std.specs.Prelude.{ℕ, List, codes}
 use Rattle.schedule_calls.specs.declared.reason.Form.{Form}
-use Rattle.schedule_calls.specs.declared.reason.Form.TheVariants.{Found, Publish, Open, Look, Put, Tune, Submit, Decide, Settle, Waive, LetGo, Row, Job, Journal, Image}
+use Rattle.schedule_calls.specs.declared.reason.Form.TheVariants.{Found, Publish, Open, Look, Put, Tune, Submit, Decide, Settle, Waive, LetGo, Row, Job, Journal, Image, Archive, Inspect, Play}
 
 abbrev pub form_text : Form → List ℕ
 form_text Found = codes "found STAMPKIND RECORDKIND PLACES VALUE ..."
@@ -19,3 +19,6 @@ form_text Row = codes "row RECORD"
 form_text Job = codes "job NAME"
 form_text Journal = codes "journal"
 form_text Image = codes "image IMAGE"
+form_text Archive = codes "archive"
+form_text Inspect = codes "inspect"
+form_text Play = codes "play M"

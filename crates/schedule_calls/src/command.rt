@@ -1,6 +1,6 @@
 // The commands on a register.
 ghost use Rattle.std.specs.Prelude.{Some};
-ghost use Rattle.schedule_calls.specs.Calls.{call_text};
+ghost use Rattle.schedule_calls.specs.Calls.{call_text, archived_text};
 
 use crate::numbers::Number;
 use std::fmt;
@@ -51,12 +51,22 @@ pub enum View {
     Image { number: usize },
 }
 
-// One command: a call, a job that is let go, or a state to be shown.
+// What a command shows of the archive of the present journal: its bytes, what inspect says of them, or the values
+// after the first jobs, so many of them.
+#[derive(Drop)]
+pub enum Archived {
+    Bytes,
+    Inspected,
+    Played { jobs: Number },
+}
+
+// One command: a call, a job that is let go, or a state or an archive to be shown.
 #[derive(Drop)]
 pub enum Command<R> {
     Make(Call<R>),
     LetGo { name: String },
     Show(View),
+    Keep(Archived),
 }
 
 // A call as its answer names it.
@@ -83,6 +93,19 @@ impl<R> fmt::Display for Call<R> {
             Call::Decide => write!(f, "decide"),
             Call::Settle { name, image: _ } => write!(f, "settle {name}"),
             Call::Waive { name } => write!(f, "waive {name}"),
+        }
+    }
+}
+
+// A command on the archive as its answer names it.
+impl fmt::Display for Archived {
+    ghost output = { λ x. Some (archived_text x) };
+
+    fn fmt<W: fmt::Write>(&self, f: &mut fmt::Formatter<W>) -> fmt::Result {
+        match self {
+            Archived::Bytes => write!(f, "archive"),
+            Archived::Inspected => write!(f, "inspect"),
+            Archived::Played { jobs } => write!(f, "play {jobs}"),
         }
     }
 }

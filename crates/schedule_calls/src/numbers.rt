@@ -1,5 +1,9 @@
 // Numbers of any size.
-ghost use Rattle.std.specs.Prelude.{◌≤◌, IfOk, Some, string_bytes};
+ghost use Rattle.std.specs.Prelude.{◌≡◌, ◌≤◌, IfOk, Some, string_bytes};
+ghost use Rattle.std.specs.Char.{is_ascii_digit};
+ghost use Rattle.std.specs.List.{list_all};
+ghost use Rattle.schedule_calls.specs.Numbers.{is_number, capped_at, index_of, without_zeros, numeral, numeral_of};
+ghost use Rattle.schedule_calls.specs.Readings.{Reads};
 
 use crate::reason::{Fault, Reason};
 use notation::numbers::number;
@@ -21,14 +25,24 @@ impl fmt::Display for Number {
     }
 }
 
+// Whether each byte of a word is a decimal digit.
+fn are_digits(word: &[u8]) -> bool
+    ensures { result ≡ list_all is_ascii_digit word.now }
+{
+    word.iter().all(|c| c.is_ascii_digit())
+}
+
 // Whether a word is one or more decimal digits.
-fn is_number(word: &[u8]) -> bool {
-    !word.is_empty() && word.iter().all(|c| c.is_ascii_digit())
+fn is_number(word: &[u8]) -> bool
+    ensures { result ≡ is_number word.now }
+{
+    !word.is_empty() && are_digits(word)
 }
 
 // The number that a word of digits writes, or the largest where it is above that.
 pub fn capped(word: &[u8], most: u64) -> Result<u64, Reason>
-    ensures { IfOk result (λ n. n ≤ most) }
+    ensures value { result ≡ capped_at most word.now }
+    ensures bound { IfOk result (λ n. n ≤ most) }
 {
     if !is_number(word) {
         return Err(Reason::Number);
@@ -38,17 +52,29 @@ pub fn capped(word: &[u8], most: u64) -> Result<u64, Reason>
 
 // A number of the library's, or the largest. The cast loses nothing, and `try_from` would want a reason for a case
 // that cannot come.
-pub fn parse_index(word: &[u8]) -> Result<usize, Reason> {
+pub fn parse_index(word: &[u8]) -> Result<usize, Reason>
+    ensures { result ≡ index_of word.now }
+{
     Ok(capped(word, u64::MAX)? as usize)
 }
 
-// A number with its digits; of zeros alone one is kept.
-pub fn parse_number(heap: Global, word: &[u8]) -> Result<Number, Fault> {
+// The digits without leading zeros; of zeros alone one is kept.
+fn without_zeros(word: &[u8]) -> &[u8]
+    ensures { result.now ≡ without_zeros word.now }
+{
+    match word {
+        [b'0', rest @ ..] if !rest.is_empty() => without_zeros(rest),
+        _ => word,
+    }
+}
+
+// A number with its digits.
+pub fn parse_number(heap: Global, word: &[u8]) -> Result<Number, Fault>
+    ensures { Reads numeral (numeral_of word.now) result }
+{
     let value = parse_index(word)?;
-    let written = std::str::from_utf8(word).map_err(|_| Reason::Number)?;
-    let digits = match written.trim_start_matches('0') {
-        "" => "0",
-        digits => digits,
+    let Ok(digits) = std::str::from_utf8(without_zeros(word)) else {
+        return Err(Reason::Number.into());
     };
     Ok(Number {
         digits: String::from_str(heap, digits)?,

@@ -1,26 +1,58 @@
 // From words to a command.
-use crate::command::{Call, Command, View};
-use crate::numbers::{parse_index, parse_number};
+ghost use Rattle.std.specs.Prelude.{◌≡◌, string_bytes};
+ghost use Rattle.std.specs.Char.{is_ascii_alphanumeric};
+ghost use Rattle.std.specs.List.{list_all};
+ghost use Rattle.schedule_text.specs.Words.{texts};
+ghost use Rattle.schedule_calls.specs.Commands.{is_name, name_of, value_of, form_named, alone, one_name, one_index, one_numeral, name_and_image, image_after, at_of, look_of, put_of, formed, command_of};
+ghost use Rattle.schedule_calls.specs.Numbers.{numeral};
+ghost use Rattle.schedule_calls.specs.Readings.{Reads};
+ghost use Rattle.schedule_calls.specs.Told.{call_told, command_told};
+
+use crate::command::{Archived, Call, Command, View};
+use crate::numbers::{Number, parse_index, parse_number};
 use crate::reason::{Fault, Form, Reason};
 use notation::text::Notation;
+use notation::words::is_word;
 use std::alloc::Global;
 
+// Whether each byte of a word is a letter or a digit.
+fn are_letters(word: &[u8]) -> bool
+    ensures { result ≡ list_all is_ascii_alphanumeric word.now }
+{
+    word.iter().all(|c| c.is_ascii_alphanumeric())
+}
+
+// Whether a word is one or more letters and digits.
+fn is_name(word: &[u8]) -> bool
+    ensures { result ≡ is_name word.now }
+{
+    !word.is_empty() && are_letters(word)
+}
+
 // The name of a job or a ticket, which is letters and digits.
-fn parse_name(heap: Global, word: &[u8]) -> Result<String, Fault> {
-    if word.is_empty() || !word.iter().all(|c| c.is_ascii_alphanumeric()) {
+fn parse_name(heap: Global, word: &[u8]) -> Result<String, Fault>
+    ensures { Reads (λ s. string_bytes s) (name_of word.now) result }
+{
+    if !is_name(word) {
         return Err(Reason::Name.into());
     }
-    let name = std::str::from_utf8(word).map_err(|_| Reason::Name)?;
+    let Ok(name) = std::str::from_utf8(word) else {
+        return Err(Reason::Name.into());
+    };
     Ok(String::from_str(heap, name)?)
 }
 
 // A record's value.
-pub fn parse_value<R: Notation>(word: &[u8]) -> Result<R, Reason> {
+pub fn parse_value<R: Notation>(word: &[u8]) -> Result<R, Reason>
+    ensures { result ≡ value_of R.Notation.notes word.now }
+{
     R::parse(word).ok_or(Reason::Value)
 }
 
 // The form of the command that a first word names.
-fn form_of(word: &[u8]) -> Option<Form> {
+fn form_of(word: &[u8]) -> Option<Form>
+    ensures { result ≡ form_named word.now }
+{
     match word {
         b"publish" => Some(Form::Publish),
         b"open" => Some(Form::Open),
@@ -36,30 +68,107 @@ fn form_of(word: &[u8]) -> Option<Form> {
         b"job" => Some(Form::Job),
         b"journal" => Some(Form::Journal),
         b"image" => Some(Form::Image),
+        b"archive" => Some(Form::Archive),
+        b"inspect" => Some(Form::Inspect),
+        b"play" => Some(Form::Play),
         _ => None,
     }
 }
 
-// A look at the image of this number, or at the job's own.
-fn parse_look<R>(
-    heap: Global,
-    name: &[u8],
-    record: &[u8],
-    at: Option<usize>,
-) -> Result<Call<R>, Fault> {
+// No word follows the first.
+fn alone(form: Form, words: &[&[u8]]) -> Result<(), Reason>
+    ensures { result ≡ alone form (texts words.now) }
+{
+    match words {
+        [] => Ok(()),
+        _ => Err(Reason::Words(form)),
+    }
+}
+
+// A name alone.
+fn one_name(heap: Global, form: Form, words: &[&[u8]]) -> Result<String, Fault>
+    ensures { Reads (λ s. string_bytes s) (one_name form (texts words.now)) result }
+{
+    match words {
+        [name] => parse_name(heap, name),
+        _ => Err(Reason::Words(form).into()),
+    }
+}
+
+// A number of the library's alone.
+fn one_index(form: Form, words: &[&[u8]]) -> Result<usize, Reason>
+    ensures { result ≡ one_index form (texts words.now) }
+{
+    match words {
+        [number] => parse_index(number),
+        _ => Err(Reason::Words(form)),
+    }
+}
+
+// A number with its digits alone.
+fn one_number(heap: Global, form: Form, words: &[&[u8]]) -> Result<Number, Fault>
+    ensures { Reads numeral (one_numeral form (texts words.now)) result }
+{
+    match words {
+        [number] => parse_number(heap, number),
+        _ => Err(Reason::Words(form).into()),
+    }
+}
+
+// A name and the number of an image.
+fn name_and_image(heap: Global, form: Form, words: &[&[u8]]) -> Result<(String, usize), Fault>
+    ensures { Reads (λ p. record { name = string_bytes p.0; image = p.1 }) (name_and_image form (texts words.now)) result }
+{
+    let [name, image] = words else {
+        return Err(Reason::Words(form).into());
+    };
+    let name = parse_name(heap, name)?;
+    let image = parse_index(image)?;
+    Ok((name, image))
+}
+
+// The image of this number, after the word `at`.
+fn image_after(form: Form, at: &[u8], image: &[u8]) -> Result<Option<usize>, Reason>
+    ensures { result ≡ image_after form at.now image.now }
+{
+    if !is_word(at, "at") {
+        return Err(Reason::Words(form));
+    }
+    Ok(Some(parse_index(image)?))
+}
+
+// The image that is named after `at`, if any words follow.
+fn parse_at(form: Form, words: &[&[u8]]) -> Result<Option<usize>, Reason>
+    ensures { result ≡ at_of form (texts words.now) }
+{
+    match words {
+        [] => Ok(None),
+        [at, image] => image_after(form, at, image),
+        _ => Err(Reason::Words(form)),
+    }
+}
+
+// A look, at the image that is named or at the job's own.
+fn parse_look<R>(heap: Global, words: &[&[u8]]) -> Result<Call<R>, Fault>
+    ensures { Reads call_told (look_of (texts words.now)) result }
+{
+    let [name, record, at @ ..] = words else {
+        return Err(Reason::Words(Form::Look).into());
+    };
+    let at = parse_at(Form::Look, at)?;
     let name = parse_name(heap, name)?;
     let record = parse_number(heap, record)?;
     Ok(Call::Look { name, record, at })
 }
 
-// A put at the image of this number, or at the job's own.
-fn parse_put<R: Notation>(
-    heap: Global,
-    name: &[u8],
-    record: &[u8],
-    value: &[u8],
-    at: Option<usize>,
-) -> Result<Call<R>, Fault> {
+// A put, at the image that is named or at the job's own.
+fn parse_put<R: Notation>(heap: Global, words: &[&[u8]]) -> Result<Call<R>, Fault>
+    ensures { Reads call_told (put_of R.Notation.notes (texts words.now)) result }
+{
+    let [name, record, value, at @ ..] = words else {
+        return Err(Reason::Words(Form::Put).into());
+    };
+    let at = parse_at(Form::Put, at)?;
     let name = parse_name(heap, name)?;
     let record = parse_number(heap, record)?;
     let value = parse_value(value)?;
@@ -71,58 +180,84 @@ fn parse_put<R: Notation>(
     })
 }
 
+// The command of a form, from the words after the first.
+fn parse_form<R: Notation>(heap: Global, form: Form, words: &[&[u8]]) -> Result<Command<R>, Fault>
+    ensures { Reads command_told (formed R.Notation.notes form (texts words.now)) result }
+{
+    match form {
+        Form::Found => Err(Reason::Command.into()),
+        Form::Publish => {
+            alone(form, words)?;
+            Ok(Command::Make(Call::Publish))
+        }
+        Form::Open => {
+            let (name, image) = name_and_image(heap, form, words)?;
+            Ok(Command::Make(Call::Open { name, image }))
+        }
+        Form::Look => Ok(Command::Make(parse_look(heap, words)?)),
+        Form::Put => Ok(Command::Make(parse_put(heap, words)?)),
+        Form::Tune => {
+            let (name, image) = name_and_image(heap, form, words)?;
+            Ok(Command::Make(Call::Tune { name, image }))
+        }
+        Form::Submit => {
+            let name = one_name(heap, form, words)?;
+            Ok(Command::Make(Call::Submit { name }))
+        }
+        Form::Decide => {
+            alone(form, words)?;
+            Ok(Command::Make(Call::Decide))
+        }
+        Form::Settle => {
+            let (name, image) = name_and_image(heap, form, words)?;
+            Ok(Command::Make(Call::Settle { name, image }))
+        }
+        Form::Waive => {
+            let name = one_name(heap, form, words)?;
+            Ok(Command::Make(Call::Waive { name }))
+        }
+        Form::LetGo => {
+            let name = one_name(heap, form, words)?;
+            Ok(Command::LetGo { name })
+        }
+        Form::Row => {
+            let record = one_index(form, words)?;
+            Ok(Command::Show(View::Row { record }))
+        }
+        Form::Job => {
+            let name = one_name(heap, form, words)?;
+            Ok(Command::Show(View::Job { name }))
+        }
+        Form::Journal => {
+            alone(form, words)?;
+            Ok(Command::Show(View::Journal))
+        }
+        Form::Image => {
+            let number = one_index(form, words)?;
+            Ok(Command::Show(View::Image { number }))
+        }
+        Form::Archive => {
+            alone(form, words)?;
+            Ok(Command::Keep(Archived::Bytes))
+        }
+        Form::Inspect => {
+            alone(form, words)?;
+            Ok(Command::Keep(Archived::Inspected))
+        }
+        Form::Play => {
+            let jobs = one_number(heap, form, words)?;
+            Ok(Command::Keep(Archived::Played { jobs }))
+        }
+    }
+}
+
 // The command that words are, or why they are none.
-pub fn parse<R: Notation>(heap: Global, words: &[&[u8]]) -> Result<Command<R>, Fault> {
+pub fn parse<R: Notation>(heap: Global, words: &[&[u8]]) -> Result<Command<R>, Fault>
+    ensures { Reads command_told (command_of R.Notation.notes (texts words.now)) result }
+{
     let [first, rest @ ..] = words else {
         return Err(Reason::Command.into());
     };
     let form = form_of(first).ok_or(Reason::Command)?;
-    Ok(match (form, rest) {
-        (Form::Publish, []) => Command::Make(Call::Publish),
-        (Form::Open, [name, image]) => Command::Make(Call::Open {
-            name: parse_name(heap, name)?,
-            image: parse_index(image)?,
-        }),
-        (Form::Look, [name, record]) => Command::Make(parse_look(heap, name, record, None)?),
-        (Form::Look, [name, record, b"at", image]) => {
-            let at = parse_index(image)?;
-            Command::Make(parse_look(heap, name, record, Some(at))?)
-        }
-        (Form::Put, [name, record, value]) => {
-            Command::Make(parse_put(heap, name, record, value, None)?)
-        }
-        (Form::Put, [name, record, value, b"at", image]) => {
-            let at = parse_index(image)?;
-            Command::Make(parse_put(heap, name, record, value, Some(at))?)
-        }
-        (Form::Tune, [name, image]) => Command::Make(Call::Tune {
-            name: parse_name(heap, name)?,
-            image: parse_index(image)?,
-        }),
-        (Form::Submit, [name]) => Command::Make(Call::Submit {
-            name: parse_name(heap, name)?,
-        }),
-        (Form::Decide, []) => Command::Make(Call::Decide),
-        (Form::Settle, [name, image]) => Command::Make(Call::Settle {
-            name: parse_name(heap, name)?,
-            image: parse_index(image)?,
-        }),
-        (Form::Waive, [name]) => Command::Make(Call::Waive {
-            name: parse_name(heap, name)?,
-        }),
-        (Form::LetGo, [name]) => Command::LetGo {
-            name: parse_name(heap, name)?,
-        },
-        (Form::Row, [record]) => Command::Show(View::Row {
-            record: parse_index(record)?,
-        }),
-        (Form::Job, [name]) => Command::Show(View::Job {
-            name: parse_name(heap, name)?,
-        }),
-        (Form::Journal, []) => Command::Show(View::Journal),
-        (Form::Image, [number]) => Command::Show(View::Image {
-            number: parse_index(number)?,
-        }),
-        _ => return Err(Reason::Words(form).into()),
-    })
+    parse_form(heap, form, rest)
 }

@@ -64,6 +64,9 @@ pub enum Form {
     Job,
     Journal,
     Image,
+    Archive,
+    Inspect,
+    Play,
 }
 
 impl fmt::Display for Form {
@@ -86,6 +89,9 @@ impl fmt::Display for Form {
             Form::Job => "job NAME",
             Form::Journal => "journal",
             Form::Image => "image IMAGE",
+            Form::Archive => "archive",
+            Form::Inspect => "inspect",
+            Form::Play => "play M",
         })
     }
 }

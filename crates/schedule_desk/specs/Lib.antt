@@ -1,2 +1,4 @@
 pub mod Answers
 pub mod Failures
+pub mod Founded
+pub mod Made

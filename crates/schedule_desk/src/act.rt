@@ -1,4 +1,8 @@
 // Calls of the library, as a desk makes them.
+ghost use Rattle.std.specs.Prelude.{◌≡◌, IfOk, OnOk};
+ghost use Rattle.std.specs.BTreeMap.{get_by_text};
+ghost use Rattle.schedule_desk.specs.Made.{Made, Answers, IsImage, IsStanding, IsValue, IsTicket, IsSettled, decided};
+
 use crate::answer::Answer;
 use crate::desk::Desk;
 use crate::failure::Failure;
@@ -9,10 +13,10 @@ use office::images::Published;
 use office::store::places;
 use schedule_calls::command::Call;
 use schedule_calls::reason::{Fault, Reason};
-use station::job::Job;
+use station::job::{Job, Standing};
 
 // The image of this number.
-pub fn image_at<S: Stamp, R: Copy>(
+fn image_at<S: Stamp, R: Copy>(
     images: &[Published<S, R>],
     number: usize,
 ) -> Result<Image<'_, S, R>, Reason> {
@@ -25,7 +29,9 @@ pub fn image_at<S: Stamp, R: Copy>(
 // The calls of the registrar.
 impl<S: Stamp, R: Copy> Desk<S, R> {
     // Publishes the next image.
-    fn publish(&mut self) -> Result<Answer<S, R>, Failure> {
+    fn publish(&mut self) -> Result<Answer<S, R>, Failure>
+        ensures { IfOk result (λ a. IsImage a) }
+    {
         let mut published = Published::opening(self.heap, &self.store.opening)?;
         let number = self.registrar.publish(
             self.store.lend(),
@@ -38,12 +44,16 @@ impl<S: Stamp, R: Copy> Desk<S, R> {
     }
 
     // Decides the oldest submission.
-    fn decide(&mut self) -> Result<Answer<S, R>, Failure> {
+    fn decide(&mut self) -> Result<Answer<S, R>, Failure>
+        ensures { Made (decided S.Stamp.kind self.old) result }
+    {
         Ok(Answer::Decided(self.registrar.decide(self.store.lend())?))
     }
 
     // Submits a job; its name stands for the ticket then.
-    fn submit(&mut self, name: &str) -> Result<Answer<S, R>, Failure> {
+    fn submit(&mut self, name: &str) -> Result<Answer<S, R>, Failure>
+        ensures { IfOk result (λ a. IsTicket a) }
+    {
         let (name, Station { job, sheet }) = self.holdings.take_job(name)?;
         match self.registrar.submit(self.store.lend(), job, &sheet) {
             Ok(ticket) => {
@@ -60,7 +70,9 @@ impl<S: Stamp, R: Copy> Desk<S, R> {
     }
 
     // Settles a ticket, which frees its name.
-    fn settle(&mut self, name: &str, image: usize) -> Result<Answer<S, R>, Failure> {
+    fn settle(&mut self, name: &str, image: usize) -> Result<Answer<S, R>, Failure>
+        ensures { IfOk result (λ a. IsSettled a) }
+    {
         let (name, ticket) = self.holdings.take_ticket(name)?;
         let image = match image_at(&self.images, image) {
             Ok(image) => image,
@@ -79,7 +91,9 @@ impl<S: Stamp, R: Copy> Desk<S, R> {
     }
 
     // Waives a ticket, which frees its name.
-    fn waive(&mut self, name: &str) -> Result<Answer<S, R>, Failure> {
+    fn waive(&mut self, name: &str) -> Result<Answer<S, R>, Failure>
+        ensures { IfOk result (λ a. a ≡ Answer.Done) }
+    {
         let (_, ticket) = self.holdings.take_ticket(name)?;
         ticket.waive();
         Ok(Answer::Done)
@@ -89,7 +103,9 @@ impl<S: Stamp, R: Copy> Desk<S, R> {
 // The calls of a station.
 impl<S: Stamp, R: Copy> Desk<S, R> {
     // Opens a job, unless its name stands.
-    fn open(&mut self, name: &str, image: usize) -> Result<Answer<S, R>, Failure> {
+    fn open(&mut self, name: &str, image: usize) -> Result<Answer<S, R>, Failure>
+        ensures { IfOk result (λ a. a ≡ Answer.Stands Standing.Live) }
+    {
         let name = self.holdings.free(name)?;
         let job = Job::open(image_at(&self.images, image)?)?;
         let standing = job.standing;
@@ -105,7 +121,9 @@ impl<S: Stamp, R: Copy> Desk<S, R> {
         name: &str,
         record: usize,
         at: Option<usize>,
-    ) -> Result<Answer<S, R>, Failure> {
+    ) -> Result<Answer<S, R>, Failure>
+        ensures { IfOk result (λ a. IsValue a) }
+    {
         let station = self.holdings.job_mut(name)?;
         let image = image_at(&self.images, station.image(at))?;
         let value = station.job.look(&mut station.sheet, image, record)?;
@@ -119,7 +137,9 @@ impl<S: Stamp, R: Copy> Desk<S, R> {
         record: usize,
         value: R,
         at: Option<usize>,
-    ) -> Result<Answer<S, R>, Failure> {
+    ) -> Result<Answer<S, R>, Failure>
+        ensures { IfOk result (λ a. a ≡ Answer.Done) }
+    {
         let station = self.holdings.job_mut(name)?;
         let image = image_at(&self.images, station.image(at))?;
         station.job.put(&mut station.sheet, image, record, value)?;
@@ -127,15 +147,19 @@ impl<S: Stamp, R: Copy> Desk<S, R> {
     }
 
     // A job tunes to an image.
-    fn tune(&mut self, name: &str, image: usize) -> Result<Answer<S, R>, Failure> {
+    fn tune(&mut self, name: &str, image: usize) -> Result<Answer<S, R>, Failure>
+        ensures { IfOk result (λ a. IsStanding a) }
+    {
         let station = self.holdings.job_mut(name)?;
         let image = image_at(&self.images, image)?;
         let standing = station.job.tune(&mut station.sheet, image)?;
         Ok(Answer::Stands(standing))
     }
 
-    // Lets a job go that was not submitted.
-    pub fn let_go(&mut self, name: &str) -> Result<(), Fault> {
+    // Lets a job go that was not submitted, which frees its name.
+    pub fn let_go(&mut self, name: &str) -> Result<(), Fault>
+        ensures { OnOk result (get_by_text self.new.holdings.named name.now ≡ None) }
+    {
         let _ = self.holdings.take_job(name)?;
         Ok(())
     }
@@ -143,7 +167,10 @@ impl<S: Stamp, R: Copy> Desk<S, R> {
 
 impl<S: Stamp, R: Copy> Desk<S, R> {
     // Makes a call.
-    pub fn make(&mut self, call: &Call<R>) -> Result<Answer<S, R>, Failure> {
+    pub fn make(&mut self, call: &Call<R>) -> Result<Answer<S, R>, Failure>
+        ensures kind { IfOk result (λ a. Answers call.now a) }
+        ensures decide { call.now ≡ Call.Decide → Made (decided S.Stamp.kind self.old) result }
+    {
         match call {
             Call::Publish => self.publish(),
             Call::Open { name, image } => self.open(name, *image),

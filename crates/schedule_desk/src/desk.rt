@@ -1,7 +1,9 @@
 // A desk: one registrar with its tables, the images it published, and the jobs and tickets by name.
-ghost use Rattle.std.specs.Prelude.{◌≡◌};
+ghost use Rattle.std.specs.Prelude.{◌≡◌, [], ◌∷◌, length, map, IfOk, IfErr};
 ghost use Rattle.law.specs.HandOver.{AccountedFor};
+ghost use Rattle.office.specs.Images.{image_kept};
 ghost use Rattle.office.specs.Store.{registry_kept};
+ghost use Rattle.schedule_desk.specs.Founded.{founded_numbers, opening_image, IsNoFounding};
 
 use crate::failure::Failure;
 use crate::holdings::Holdings;
@@ -18,12 +20,17 @@ pub struct Desk<S: Copy, R: Copy> {
     pub store: Store<S, R>,
     pub images: Vec<Published<S, R>>,
     pub blank: Entry<S, R>,
-    pub holdings: Holdings<S, R>,
+    pub(crate) holdings: Holdings<S, R>,
 }
 
 impl<S: Stamp, R: Copy> Desk<S, R> {
     // A desk with a new register of these opening values, with tables for so many jobs in the journal.
-    pub fn new(heap: Global, values: &[R], journal: usize) -> Result<Desk<S, R>, Failure> {
+    pub fn new(heap: Global, values: &[R], journal: usize) -> Result<Desk<S, R>, Failure>
+        ensures numbers { IfOk result (λ d. d.registrar ≡ founded_numbers (length values.now)) }
+        ensures images { IfOk result (λ d. map (λ p. image_kept p) d.images.items ≡ opening_image S.Stamp.kind.order values.now ∷ []) }
+        ensures names { IfOk result (λ d. d.holdings.named.entries ≡ []) }
+        ensures refused { IfErr result (λ f. IsNoFounding f) }
+    {
         let Some(first) = values.first() else {
             let mut store: Store<S, R> = Store::empty(heap);
             return match Registrar::found(values, store.lend()) {

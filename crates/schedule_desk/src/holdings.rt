@@ -1,4 +1,7 @@
 // What names stand for: jobs with their sheets, and tickets.
+ghost use Rattle.std.specs.Prelude.{◌≡◌, [], OnOk};
+ghost use Rattle.std.specs.BTreeMap.{get_by_text};
+
 use model::entry::Entry;
 use registrar::ticket::Ticket;
 use schedule_calls::reason::{Fault, Reason};
@@ -8,9 +11,9 @@ use std::collections::BTreeMap;
 
 // A job with its sheet.
 #[derive(Drop)]
-pub struct Station<S: Copy, R: Copy> {
-    pub job: Job<S>,
-    pub sheet: Vec<Entry<S, R>>,
+pub(crate) struct Station<S: Copy, R: Copy> {
+    pub(crate) job: Job<S>,
+    pub(crate) sheet: Vec<Entry<S, R>>,
 }
 
 impl<S: Copy, R: Copy> Station<S, R> {
@@ -55,29 +58,41 @@ impl<S: Copy, R: Copy> Holding<S, R> {
 }
 
 // The jobs and the tickets by name.
-pub struct Holdings<S: Copy, R: Copy> {
+pub(crate) struct Holdings<S: Copy, R: Copy> {
     heap: Global,
     named: BTreeMap<String, Holding<S, R>>,
 }
 
-// What stands under a name; where nothing does, the reason that names it.
+// The fault of a name under which nothing stands, by the reason that names it.
+fn missing<F: FnOnce(String) -> Reason + Drop>(heap: Global, name: &str, reason: F) -> Fault
+    requires { F.IsAlwaysCallable reason }
+{
+    match String::from_str(heap, name) {
+        Ok(name) => reason(name).into(),
+        Err(e) => e.into(),
+    }
+}
+
+// What stands under a name, or the fault that nothing does.
 fn standing<T, F: FnOnce(String) -> Reason + Drop>(
     heap: Global,
     found: Option<T>,
     name: &str,
-    missing: F,
+    reason: F,
 ) -> Result<T, Fault>
-    requires { F.IsAlwaysCallable missing }
+    requires { F.IsAlwaysCallable reason }
 {
     match found {
         Some(found) => Ok(found),
-        None => Err(missing(String::from_str(heap, name)?).into()),
+        None => Err(missing(heap, name, reason)),
     }
 }
 
 impl<S: Copy, R: Copy> Holdings<S, R> {
     // No name stands.
-    pub fn new(heap: Global) -> Holdings<S, R> {
+    pub(crate) fn new(heap: Global) -> Holdings<S, R>
+        ensures { result.named.entries ≡ [] }
+    {
         Holdings {
             heap,
             named: BTreeMap::new(heap),
@@ -110,14 +125,16 @@ impl<S: Copy, R: Copy> Holdings<S, R> {
     }
 
     // Takes the job of this name, with the name, which is free then. A ticket stays.
-    pub(crate) fn take_job(&mut self, name: &str) -> Result<(String, Station<S, R>), Fault> {
+    pub(crate) fn take_job(&mut self, name: &str) -> Result<(String, Station<S, R>), Fault>
+        ensures { OnOk result (get_by_text self.new.named name.now ≡ None) }
+    {
         let found = self.named.remove_entry(name);
         let (taken, holding) = standing(self.heap, found, name, Reason::NoJob)?;
         match holding {
             Holding::AtWork(station) => Ok((taken, station)),
             Holding::Submitted(ticket) => {
                 self.keep(taken, Holding::Submitted(ticket))?;
-                standing(self.heap, None, name, Reason::NoJob)
+                Err(missing(self.heap, name, Reason::NoJob))
             }
         }
     }
@@ -131,7 +148,7 @@ impl<S: Copy, R: Copy> Holdings<S, R> {
             Holding::Submitted(ticket) => Ok((taken, ticket)),
             Holding::AtWork(station) => {
                 self.keep(taken, Holding::AtWork(station))?;
-                standing(self.heap, None, name, Reason::NoTicket)
+                Err(missing(self.heap, name, Reason::NoTicket))
             }
         }
     }
@@ -156,7 +173,7 @@ impl<S: Copy, R: Copy> Holdings<S, R> {
     }
 
     // Lets all go that stands, one by one.
-    pub fn close(self) {
+    pub(crate) fn close(self) {
         let Holdings { heap: _, mut named } = self;
         while let Some((_, holding)) = named.pop_first() {
             holding.let_go();

@@ -1,14 +1,12 @@
-// Whole schedules: a desk that holds one registrar with its images, jobs and tickets, and carries out
-// one command to a line.
+// A desk: one registrar with its images, its jobs and its tickets, the library's calls on them, and how their answers
+// and states are printed.
 
 #![tactic(auto)]
 
-pub mod act;
+mod act;
 pub mod answer;
 pub mod desk;
 pub mod failure;
-pub mod holdings;
+mod holdings;
 pub mod log;
-pub mod run;
-pub mod session;
-pub mod show;
+mod show;

@@ -1,5 +1,5 @@
 // The printout, and what it counts.
-ghost use Rattle.std.specs.Prelude.{◌≡◌, ◌++◌, is_err, string_bytes, codes, OnOk, Some};
+ghost use Rattle.std.specs.Prelude.{◌≡◌, ◌++◌, [], is_err, string_bytes, codes, OnOk, Some};
 ghost use Rattle.schedule_calls.specs.Calls.{call_text};
 ghost use Rattle.schedule_desk.specs.Answers.{answer_line, last_line, tallied};
 
@@ -7,13 +7,13 @@ use crate::answer::{Answer, Said};
 use model::refusal::Refusal;
 use notation::text::Notation;
 use schedule_calls::command::Call;
-use schedule_calls::reason::{Fault, Reason};
+use schedule_calls::reason::Fault;
 use std::alloc::Global;
 use std::fmt;
 use std::fmt::Write;
 
 // How many calls a run made, and how many of them were refused.
-#[derive(Clone, Copy, Default)]
+#[derive(Clone, Copy)]
 pub struct Tally {
     pub calls: usize,
     pub refused: usize,
@@ -39,11 +39,17 @@ pub struct Log {
 }
 
 impl Log {
-    // A printout of nothing.
-    pub fn new(heap: Global) -> Log {
+    // A printout of nothing, in which no call is counted.
+    pub fn new(heap: Global) -> Log
+        ensures text { string_bytes result.text ≡ [] }
+        ensures tally { result.tally ≡ record { calls = 0; refused = 0 } }
+    {
         Log {
             text: String::new(heap),
-            tally: Tally::default(),
+            tally: Tally {
+                calls: 0,
+                refused: 0,
+            },
         }
     }
 
@@ -83,12 +89,6 @@ impl Log {
         ensures tally { OnOk result (self.new.tally ≡ tallied (is_err said) self.old.tally) }
     {
         self.said(call, said)
-    }
-
-    // The line that says why a line is no call.
-    pub fn no_call(&mut self, line: usize, reason: &Reason) -> Result<(), Fault> {
-        writeln!(self.text, "line {line}: {reason}")?;
-        Ok(())
     }
 
     // The last line: the calls, and the jobs in the journal.

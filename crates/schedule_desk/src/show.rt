@@ -1,4 +1,8 @@
 // States, as a desk prints them.
+ghost use Rattle.std.specs.Prelude.{◌≡◌, ℕ, ◌≤◌, length, Err};
+ghost use Rattle.schedule_calls.specs.declared.reason.Fault.TheVariants.{NoCall};
+ghost use Rattle.schedule_calls.specs.declared.reason.Reason.TheVariants.{NoRecord, NoImage};
+
 use crate::answer::{ShownOutcome, ShownStanding};
 use crate::desk::Desk;
 use crate::holdings::Station;
@@ -194,7 +198,10 @@ impl<S: Notation, R: Notation> fmt::Display for ShownImage<'_, S, R> {
 
 impl<S: Stamp + Notation, R: Notation> Desk<S, R> {
     // The row of a record.
-    fn show_record(&self, log: &mut Log, record: usize) -> Result<(), Fault> {
+    fn show_record(&self, log: &mut Log, record: usize) -> Result<(), Fault>
+        ensures tally { log.new.tally ≡ log.old.tally }
+        ensures missing { length self.now.store.rows.items ≤ «record» → result ≡ Err (NoCall NoRecord) }
+    {
         let row = self.store.rows.get(record).ok_or(Reason::NoRecord)?;
         let first = *self.store.firsts.get(record).ok_or(Reason::NoRecord)?;
         let row = ShownRow { record, row, first };
@@ -203,7 +210,9 @@ impl<S: Stamp + Notation, R: Notation> Desk<S, R> {
     }
 
     // The job of a name.
-    fn show_named(&self, log: &mut Log, name: &str) -> Result<(), Fault> {
+    fn show_named(&self, log: &mut Log, name: &str) -> Result<(), Fault>
+        ensures { log.new.tally ≡ log.old.tally }
+    {
         let station = self.holdings.job(name)?;
         let job = ShownJob { name, station };
         write!(log.text, "{job}")?;
@@ -211,7 +220,9 @@ impl<S: Stamp + Notation, R: Notation> Desk<S, R> {
     }
 
     // The journal, in final order.
-    fn show_journal(&self, log: &mut Log) -> Result<(), Fault> {
+    fn show_journal(&self, log: &mut Log) -> Result<(), Fault>
+        ensures { log.new.tally ≡ log.old.tally }
+    {
         let jobs = self.registrar.jobs;
         let lines = self.store.lines.as_slice();
         writeln!(log.text, "journal: {jobs} jobs")?;
@@ -223,15 +234,22 @@ impl<S: Stamp + Notation, R: Notation> Desk<S, R> {
     }
 
     // An image that was published.
-    fn show_image(&self, log: &mut Log, number: usize) -> Result<(), Fault> {
+    fn show_image(&self, log: &mut Log, number: usize) -> Result<(), Fault>
+        ensures tally { log.new.tally ≡ log.old.tally }
+        ensures missing { length self.now.images.items ≤ number → result ≡ Err (NoCall NoImage) }
+    {
         let published = self.images.get(number).ok_or(Reason::NoImage)?;
         let image = ShownImage(published);
         write!(log.text, "{image}")?;
         Ok(())
     }
 
-    // Prints a state.
-    pub fn show(&self, log: &mut Log, view: &View) -> Result<(), Fault> {
+    // Prints a state, which no tally counts.
+    pub fn show(&self, log: &mut Log, view: &View) -> Result<(), Fault>
+        ensures tally { log.new.tally ≡ log.old.tally }
+        ensures record { (r : ℕ) → view.now ≡ View.Row r → length self.now.store.rows.items ≤ r → result ≡ Err (NoCall NoRecord) }
+        ensures image { (i : ℕ) → view.now ≡ View.Image i → length self.now.images.items ≤ i → result ≡ Err (NoCall NoImage) }
+    {
         match view {
             View::Row { record } => self.show_record(log, *record),
             View::Job { name } => self.show_named(log, name),

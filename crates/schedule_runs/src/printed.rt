@@ -1,5 +1,5 @@
 // A schedule's printout against what it should be. Another crate of tests says so of the run on kinds alone.
-use schedule_desk::run::run;
+use schedule_session::run::run;
 use schedule_text::run::Stopped;
 use std::alloc::Global;
 use std::test::Fail;

@@ -1,10 +1,16 @@
 // A whole schedule, from its text to the printout.
-use crate::log::Log;
+ghost use Rattle.std.specs.Prelude.{◌≡◌, ◌≤◌, length, [], Ok, IfOk, IfErr};
+ghost use Rattle.schedule_text.specs.Lines.{lines_of};
+ghost use Rattle.schedule_text.specs.Runs.{told};
+ghost use Rattle.schedule_session.specs.Runs.{help_text, ending_of};
+
 use crate::session::Session;
 use schedule_calls::reason::Fault;
+use schedule_desk::log::Log;
 use schedule_text::line::Lines;
 use schedule_text::run::{Printout, Stopped};
 use std::alloc::{AllocError, Global};
+use std::fmt::Write;
 
 // What an empty input is answered with.
 const HELP: &str = "A schedule: one command to a line. Lines that begin with # are passed over.
@@ -34,6 +40,12 @@ drop NAME
 
 row RECORD, job NAME, journal, image IMAGE
   show a state
+archive
+  the archive of the journal, in hexadecimal digits
+inspect
+  whether that archive is sound, with its number of jobs
+play M
+  the values after the first M jobs of that archive
 
 pick KIND LOWER UPPER
   a stamp after LOWER and before UPPER, which may be none; KIND is whole or page
@@ -53,18 +65,22 @@ struct Stop {
 }
 
 // Carries out the lines of an input, up to the first that is no call.
-fn run_lines(session: &mut Session, input: &[u8]) -> Result<(), Stop> {
-    for (before, line) in Lines(input).enumerate() {
-        session.carry_out(line).map_err(|fault| Stop {
-            line: before.saturating_add(1),
-            fault,
-        })?;
+fn run_lines(session: &mut Session, input: &[u8]) -> Result<(), Stop>
+    ensures { IfErr result (λ s. (1 ≤ s.line) × (s.line ≤ length (lines_of input.now))) }
+{
+    for (i, line) in Lines(input).enumerate() {
+        if let Err(fault) = session.carry_out(line) {
+            let line = i + 1;
+            return Err(Stop { line, fault });
+        }
     }
     Ok(())
 }
 
 // The printout of a run, with the last line of one that came to its end, or of one that stopped.
-fn finish(mut log: Log, ended: Result<(), Stop>, jobs: Option<usize>) -> Result<Printout, Fault> {
+fn finish(mut log: Log, ended: Result<(), Stop>, jobs: Option<usize>) -> Result<Printout, Fault>
+    ensures { IfOk result (λ p. p.ending ≡ ending_of ended) }
+{
     let ending = match ended {
         Ok(()) => {
             if let Some(jobs) = jobs {
@@ -78,7 +94,7 @@ fn finish(mut log: Log, ended: Result<(), Stop>, jobs: Option<usize>) -> Result<
                 fault: Fault::NoCall(reason),
             },
         ) => {
-            log.no_call(line, &reason)?;
+            writeln!(log.text, "line {line}: {reason}")?;
             Err(Stopped { line })
         }
         Err(Stop { line: _, fault }) => return Err(fault),
@@ -89,8 +105,11 @@ fn finish(mut log: Log, ended: Result<(), Stop>, jobs: Option<usize>) -> Result<
     })
 }
 
-// The printout of a schedule; of an empty one, the help.
-pub fn run(heap: Global, input: &[u8]) -> Result<Printout, AllocError> {
+// The printout of a schedule; of an empty one, the help. A run that stops names the line that is no call.
+pub fn run(heap: Global, input: &[u8]) -> Result<Printout, AllocError>
+    ensures help { length input.now ≡ 0 → IfOk result (λ p. told p ≡ record { text = help_text; ending = Ok tt }) }
+    ensures line { IfOk result (λ p. IfErr p.ending (λ s. (1 ≤ s.line) × (s.line ≤ length (lines_of input.now)))) }
+{
     if input.is_empty() {
         return Ok(Printout {
             text: String::from_str(heap, HELP)?,

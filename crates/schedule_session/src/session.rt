@@ -1,11 +1,9 @@
 // A session: the printout so far, and the register of the schedule, by stamp kind and record kind.
-use crate::answer::Answer;
-use crate::desk::Desk;
-use crate::failure::Failure;
-use crate::log::Log;
+use crate::archived::show_archived;
 use kinds::card::Card;
 use kinds::item::Item;
 use kinds::stamp::Stamp;
+use kinds::value::Record;
 use kinds::volume::VolumePage;
 use kinds::whole::Whole;
 use model::refusal::Refusal;
@@ -14,6 +12,10 @@ use schedule_calls::command::Command;
 use schedule_calls::numbers::capped;
 use schedule_calls::parse::{parse, parse_value};
 use schedule_calls::reason::{Fault, Form, Reason};
+use schedule_desk::answer::Answer;
+use schedule_desk::desk::Desk;
+use schedule_desk::failure::Failure;
+use schedule_desk::log::Log;
 use schedule_text::answer::answer;
 use schedule_text::line::is_passed_over;
 use schedule_text::parse::parse as parse_on_kinds;
@@ -39,32 +41,35 @@ enum State {
     Page(Register<VolumePage>),
 }
 
-pub struct Session {
+pub(crate) struct Session {
     heap: Global,
     log: Log,
     state: State,
 }
 
-impl<S: Stamp + Notation, R: Notation> Desk<S, R> {
-    // One line to a desk.
-    fn obey(&mut self, log: &mut Log, words: &[&[u8]]) -> Result<(), Fault> {
-        let command = parse(self.heap, words)?;
-        match &command {
-            Command::Make(call) => {
-                // The closure of a `map_err` could not leave this function with `?`.
-                let said = match self.make(call) {
-                    Ok(answer) => Ok(answer),
-                    Err(failure) => Err(failure.refusal()?),
-                };
-                log.answered(call, said)
-            }
-            Command::LetGo { name } => {
-                self.let_go(name)?;
-                writeln!(log.text, "drop {name}: done")?;
-                Ok(())
-            }
-            Command::Show(view) => self.show(log, view),
+// One line to a desk.
+fn obey<S: Stamp + Notation, R: Record + Notation>(
+    desk: &mut Desk<S, R>,
+    log: &mut Log,
+    words: &[&[u8]],
+) -> Result<(), Fault> {
+    let command = parse(desk.heap, words)?;
+    match &command {
+        Command::Make(call) => {
+            // The closure of a `map_err` could not leave this function with `?`.
+            let said = match desk.make(call) {
+                Ok(answer) => Ok(answer),
+                Err(failure) => Err(failure.refusal()?),
+            };
+            log.answered(call, said)
         }
+        Command::LetGo { name } => {
+            desk.let_go(name)?;
+            writeln!(log.text, "drop {name}: done")?;
+            Ok(())
+        }
+        Command::Show(view) => desk.show(log, view),
+        Command::Keep(archived) => show_archived(log, desk, archived),
     }
 }
 
@@ -72,8 +77,8 @@ impl<S: Stamp + Notation> Register<S> {
     // One line to a register.
     fn obey(&mut self, log: &mut Log, words: &[&[u8]]) -> Result<(), Fault> {
         match self {
-            Register::Cards(desk) => desk.obey(log, words),
-            Register::Items(desk) => desk.obey(log, words),
+            Register::Cards(desk) => obey(desk, log, words),
+            Register::Items(desk) => obey(desk, log, words),
         }
     }
 
@@ -182,7 +187,7 @@ impl Session {
 
 impl Session {
     // A session before its founding.
-    pub fn new(heap: Global) -> Session {
+    pub(crate) fn new(heap: Global) -> Session {
         Session {
             heap,
             log: Log::new(heap),
@@ -209,7 +214,7 @@ impl Session {
     }
 
     // Carries out a line, unless it is passed over.
-    pub fn carry_out(&mut self, line: &[u8]) -> Result<(), Fault> {
+    pub(crate) fn carry_out(&mut self, line: &[u8]) -> Result<(), Fault> {
         let words = words(self.heap, line)?;
         if is_passed_over(&words) {
             return Ok(());
@@ -223,7 +228,7 @@ impl Session {
 
     // Ends the session. Answers the printout, and the number of jobs in the journal, which is none where
     // no register was asked for.
-    pub fn close(self) -> (Log, Option<usize>) {
+    pub(crate) fn close(self) -> (Log, Option<usize>) {
         let Session {
             heap: _,
             log,
