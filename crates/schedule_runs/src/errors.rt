@@ -42,7 +42,10 @@ fn words(rt: HostRuntime) -> Result<(), Fail> {
     refused(heap, "decide B", "expected decide")?;
     refused(heap, "settle B", "expected settle NAME IMAGE")?;
     refused(heap, "waive", "expected waive NAME")?;
-    refused(heap, "drop", "expected drop NAME")
+    refused(heap, "drop", "expected drop NAME")?;
+    refused(heap, "archive 1", "expected archive")?;
+    refused(heap, "inspect 1", "expected inspect")?;
+    refused(heap, "play", "expected play M")
 }
 
 #[test]
@@ -67,7 +70,8 @@ fn values(rt: HostRuntime) -> Result<(), Fail> {
     refused(heap, "row 99999999999999999999", "no record of this number")?;
     refused(heap, "job", "expected job NAME")?;
     refused(heap, "journal 1", "expected journal")?;
-    refused(heap, "image", "expected image IMAGE")
+    refused(heap, "image", "expected image IMAGE")?;
+    refused(heap, "play all", "expected a number")
 }
 
 #[test]
@@ -101,6 +105,7 @@ fn images(rt: HostRuntime) -> Result<(), Fail> {
 fn foundings(rt: HostRuntime) -> Result<(), Fail> {
     let heap = rt.alloc();
     stops(heap, "publish", 1, "line 1: expected found first\n")?;
+    stops(heap, "inspect", 1, "line 1: expected found first\n")?;
     stops(
         heap,
         "found whole card 0 1:mm:1\npublish\n",

@@ -7,6 +7,8 @@ mod cases;
 #[cfg(test)]
 mod errors;
 #[cfg(test)]
+mod kept;
+#[cfg(test)]
 mod printed;
 #[cfg(test)]
 mod refusals;

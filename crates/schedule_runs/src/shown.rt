@@ -1,5 +1,5 @@
-// Commands that show a state, and the free names.
-use crate::printed::ends;
+// Commands that show a state or the archive, and the free names.
+use crate::printed::{ends, prints};
 use std::test::Fail;
 
 #[test]
@@ -26,5 +26,14 @@ fn free_names(rt: HostRuntime) -> Result<(), Fail> {
         rt.alloc(),
         "found whole card 8 1:mm:1\npublish\nopen A 1\ndrop A\nopen A 1\nsubmit A\ndecide\npublish\nsettle A 2\nopen A 2\nsubmit A\nwaive A\nopen A 2\nsubmit A\njournal\n",
         "open A: live\ndrop A: done\nopen A: live\nsubmit A: ticket 1\ndecide: ticket 1 accepted 65536\npublish: image 2\nsettle A: accepted 65536\nopen A: live\nsubmit A: ticket 2\nwaive A: done\nopen A: live\nsubmit A: ticket 3\njournal: 1 jobs\n  65536 ticket 1 looks puts\nrun: 13 calls, 0 refused, 1 jobs in the journal\n",
+    )
+}
+
+#[test]
+fn archives(rt: HostRuntime) -> Result<(), Fail> {
+    prints(
+        rt.alloc(),
+        "found whole card 8 1:mm:10\ninspect\nplay 00\nplay 1\nplay 99999999999999999999\narchive\n",
+        "found: 1 records\ninspect: sound 0\nplay 0: 1 values\n  0: 1:mm:10\nplay 1: refused 18\nplay 99999999999999999999: refused 18\narchive: 32 bytes\n  41534a310101000100000000000000140000000c00000001000000000000000a\nrun: 1 calls, 0 refused, 0 jobs in the journal\n",
     )
 }
