@@ -152,12 +152,14 @@ impl<S: Stamp, R: Copy> Bench<S, R> {
         })
     }
 
-    // A register of two records, founded, with the first image and a job opened there.
+    // A register of two records, founded, with the first image and a job opened there. Each record has a first
+    // write, so that it shows where a refused call clears them.
     pub fn founded(heap: Global, values: Values<R>, journal: usize) -> Result<Bench<S, R>, Fail> {
         let mut bench = Bench::new(heap, values, 2, journal)?;
         bench.call(Call::Found)?;
         bench.call(Call::Publish)?;
         bench.call(Call::Open)?;
+        bench.store.firsts = places(heap, Some(S::least()), 2)?;
         Ok(bench)
     }
 

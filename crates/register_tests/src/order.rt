@@ -130,7 +130,7 @@ fn submits(rt: HostRuntime) -> Result<(), Fail> {
     submits_of::<VolumePage, _>(rt.alloc(), ITEMS)
 }
 
-// 1, 9, 5, 10, 11: where none waits, no record is asked for.
+// 1, 9, 5, 10, 11: where none waits, no record is asked for. Place 16 of the queue counts as place 0.
 fn decides_of<S: Stamp + Content, R: Content>(heap: Global, values: Values<R>) -> Result<(), Fail> {
     let mut bench: Bench<S, R> = Bench::founded(heap, values, 1)?;
     let submission = Submission {
@@ -141,6 +141,7 @@ fn decides_of<S: Stamp + Content, R: Content>(heap: Global, values: Values<R>) -
     };
     store(&mut bench.store.queue, 0, submission);
     store(&mut bench.store.queued, 0, entry_for(values.old, 2));
+    bench.registrar.oldest = 16;
     bench.registrar.jobs = 1;
     bench.registrar.outcomes = 32;
     bench.store.outcomes.pop();
