@@ -1,0 +1,6 @@
+// The example archive, told by numbers and written forms.
+
+#![tactic(auto)]
+
+#[cfg(test)]
+mod example;
