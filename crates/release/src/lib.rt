@@ -1,0 +1,16 @@
+// A release run: many stations through many schedules drawn by chance, with the archive of each written, inspected and
+// played.
+
+#![tactic(auto)]
+
+pub mod alike;
+mod calls;
+pub mod chance;
+mod check;
+pub mod failure;
+pub mod field;
+pub mod journal;
+pub mod options;
+mod schedule;
+pub mod tally;
+pub mod values;
