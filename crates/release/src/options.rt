@@ -2,20 +2,20 @@
 use thiserror::Error;
 
 // The stamp kinds and the record kinds that a run can take.
-#[derive(Clone, Copy, Debug, PartialEq, Eq)]
+#[derive(Clone, Copy)]
 pub enum Stamps {
     Whole,
     Page,
 }
 
-#[derive(Clone, Copy, Debug, PartialEq, Eq)]
+#[derive(Clone, Copy)]
 pub enum Values {
     Card,
     Item,
 }
 
 // Stations and schedules, the records of a register, the kinds, and the seed of what is drawn.
-#[derive(Clone, Copy, Debug, PartialEq, Eq)]
+#[derive(Clone, Copy)]
 pub struct Options {
     pub stations: usize,
     pub schedules: u32,
@@ -117,7 +117,7 @@ impl Options {
     }
 
     // The places of a register's journal, few enough to fill up now and then.
-    pub fn journal(&self) -> usize {
-        self.stations.saturating_mul(3).clamp(2, 8192) / 2
+    pub(crate) fn journal(&self) -> usize {
+        self.stations.saturating_mul(3).clamp(1, 4096)
     }
 }

@@ -8,7 +8,7 @@ use registrar::ticket::Ticket;
 use station::job::Standing;
 
 // How many turns a schedule has for each station.
-const TURNS: usize = 16;
+const TURNS: usize = 40;
 
 // One station in so many only looks, never tunes, and submits seldom.
 const READERS: usize = 4;
