@@ -11,7 +11,7 @@ use Rattle.schedule_calls.specs.declared.reason.Reason.{Reason}
 use Rattle.schedule_calls.specs.declared.reason.Reason.TheVariants.{Command as NoCommand, Words as WrongWords, Name as NoName, Value as NoValue}
 use Rattle.schedule_calls.specs.Numbers.{Numeral, index_of, numeral_of}
 use Rattle.schedule_calls.specs.Readings.{◌>>=◌}
-use Rattle.schedule_calls.specs.Told.{ToldCall, ToldView, Told, publishes, opens, looks, puts, tunes, submits, decides, settles, waives, a_row, a_job, the_journal, an_image, the_bytes, inspects, plays, makes, lets_go, shows, keeps}
+use Rattle.schedule_calls.specs.Told.{ToldCall, Told, publishes, opens, looks, puts, tunes, submits, decides, settles, waives, a_row, a_job, the_journal, an_image, the_bytes, inspects, plays, makes, lets_go, shows, keeps}
 
 -- the command that a first word names
 abbrev pub form_named : List ℕ → Option Form
