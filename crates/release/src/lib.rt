@@ -6,7 +6,7 @@
 pub mod alike;
 mod calls;
 pub mod chance;
-mod check;
+pub mod check;
 pub mod failure;
 pub mod field;
 pub mod journal;
