@@ -1,3 +1,4 @@
 mod Lengths
+mod Lists
 mod Journal
 mod Rebuilding

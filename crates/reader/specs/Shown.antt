@@ -16,6 +16,15 @@ noted_look l = record { number = l.number; saw = record { value = l.value; stamp
 abbrev pub entered_put : {R : Type 0} → Put R → daybook.Put R
 entered_put p = record { number = p.number; value = p.value }
 
+-- and the other way
+module _ {S R : Type 0} where
+  abbrev pub look_shown : daybook.Look S R → Look S R
+  look_shown l = record { number = l.number; stamp = l.saw.stamp; value = l.saw.value }
+
+module _ {R : Type 0} where
+  abbrev pub put_shown : daybook.Put R → Put R
+  put_shown p = record { number = p.number; value = p.value }
+
 -- the look and the put at a place
 module _ {S R : Type 0} where
   abbrev pub look_if : ℕ → Option S → Option R → Option (Look S R)

@@ -1,9 +1,11 @@
 // The noted looks of a job.
 ghost use Rattle.std.specs.Prelude.{◌≡◌, ◌+◌, ◌≤◌, length};
+ghost use Rattle.std.specs.List.{slice_get};
+ghost use Rattle.std.specs.Option.{option_map};
 ghost use Rattle.std.specs.Iterator.{YieldsFirstBy, item_count};
 ghost use Rattle.archive.specs.Journal.{stated_looks};
 ghost use Rattle.reader.specs.Readable.{ReadableLooks};
-ghost use Rattle.reader.specs.Shown.{look_at, noted_look};
+ghost use Rattle.reader.specs.Shown.{look_at, look_shown, noted_look};
 
 use crate::forms::{form, record_at};
 use kinds::stamp::Stamp;
@@ -71,6 +73,23 @@ impl<'a, S: Stamp, R: Record> Looks<'a, S, R> {
             stamps: PhantomData,
             values: PhantomData,
         }
+    }
+
+    // How many looks are still to come.
+    pub fn len(&self) -> usize
+        ensures { result ≡ length self.now }
+    {
+        self.left
+    }
+
+    // The look at a place of those that are still to come, counted from 0, if there are so many.
+    pub fn get(&self, i: usize) -> Option<Look<S, R>>
+        ensures { result ≡ option_map look_shown (slice_get self.now i) }
+    {
+        if i >= self.left {
+            return None;
+        }
+        Look::read(self.bytes, self.at + 22 * i)
     }
 }
 

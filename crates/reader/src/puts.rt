@@ -1,9 +1,11 @@
 // The puts of a job.
 ghost use Rattle.std.specs.Prelude.{◌≡◌, ◌+◌, ◌≤◌, length};
+ghost use Rattle.std.specs.List.{slice_get};
+ghost use Rattle.std.specs.Option.{option_map};
 ghost use Rattle.std.specs.Iterator.{YieldsFirstBy, item_count};
 ghost use Rattle.archive.specs.Journal.{stated_puts};
 ghost use Rattle.reader.specs.Readable.{ReadablePuts};
-ghost use Rattle.reader.specs.Shown.{entered_put, put_at};
+ghost use Rattle.reader.specs.Shown.{entered_put, put_at, put_shown};
 
 use crate::forms::{form, record_at};
 use kinds::stamp::Stamp;
@@ -68,6 +70,23 @@ impl<'a, S: Stamp, R: Record> Puts<'a, S, R> {
             stamps: PhantomData,
             values: PhantomData,
         }
+    }
+
+    // How many puts are still to come.
+    pub fn len(&self) -> usize
+        ensures { result ≡ length self.now }
+    {
+        self.left
+    }
+
+    // The put at a place of those that are still to come, counted from 0, if there are so many.
+    pub fn get(&self, i: usize) -> Option<Put<R>>
+        ensures { result ≡ option_map put_shown (slice_get self.now i) }
+    {
+        if i >= self.left {
+            return None;
+        }
+        Put::read(self.bytes, self.at + 14 * i)
     }
 }
 
