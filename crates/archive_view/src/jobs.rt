@@ -52,8 +52,8 @@ fn job_told<S: Stamp, R: Record>(bytes: &[u8], k: usize) -> Result<JobForm, Faul
     Ok(JobForm {
         stamp: job.stamp().to_bytes(),
         ticket: job.ticket(),
-        looks: job.looks(),
-        puts: job.puts(),
+        looks: job.looks().len(),
+        puts: job.puts().len(),
     })
 }
 
@@ -61,7 +61,10 @@ fn job_told<S: Stamp, R: Record>(bytes: &[u8], k: usize) -> Result<JobForm, Faul
 fn look_told<S: Stamp, R: Record>(bytes: &[u8], k: usize, i: usize) -> Result<LookForm, Fault>
     ensures { result ≡ look_told S.Stamp.kind.order R.Record.kind bytes.now k i }
 {
-    let look = job_at::<S, R>(bytes, k)?.look(i).ok_or(Fault::SpaceWrong)?;
+    let look = job_at::<S, R>(bytes, k)?
+        .looks()
+        .get(i)
+        .ok_or(Fault::SpaceWrong)?;
     Ok(LookForm {
         number: look.number,
         stamp: look.stamp.to_bytes(),
@@ -73,7 +76,10 @@ fn look_told<S: Stamp, R: Record>(bytes: &[u8], k: usize, i: usize) -> Result<Lo
 fn put_told<S: Stamp, R: Record>(bytes: &[u8], k: usize, i: usize) -> Result<PutForm, Fault>
     ensures { result ≡ put_told S.Stamp.kind.order R.Record.kind bytes.now k i }
 {
-    let put = job_at::<S, R>(bytes, k)?.put(i).ok_or(Fault::SpaceWrong)?;
+    let put = job_at::<S, R>(bytes, k)?
+        .puts()
+        .get(i)
+        .ok_or(Fault::SpaceWrong)?;
     Ok(PutForm {
         number: put.number,
         value: put.value.to_bytes(),
