@@ -57,17 +57,12 @@ pub fn struck<S: Copy, R: Copy>(entries: &[Entry<S, R>], rows: &[ImageRow<S, R>]
         .any(|entry| first_write(rows, entry.number).is_some())
 }
 
-// An entry, closed where it is open and its record has a first write.
-pub fn closed<S: Copy, R: Copy>(entry: Entry<S, R>, rows: &[ImageRow<S, R>]) -> Entry<S, R>
-    ensures { result ≡ closed_by (firsts rows.now) entry }
+// Closes an entry where it is open and its record has a first write.
+pub fn close_one<S: Copy, R: Copy>(entry: &mut Entry<S, R>, rows: &[ImageRow<S, R>])
+    ensures { entry.new ≡ closed_by (firsts rows.now) entry.old }
 {
     if entry.opened && first_write(rows, entry.number).is_some() {
-        Entry {
-            opened: false,
-            ..entry
-        }
-    } else {
-        entry
+        entry.opened = false;
     }
 }
 
@@ -77,6 +72,6 @@ pub fn close<S: Copy, R: Copy>(sheet: &mut [Entry<S, R>], count: usize, rows: &[
 {
     let end = count.min(sheet.len());
     for entry in &mut sheet[..end] {
-        *entry = closed(*entry, rows);
+        close_one(entry, rows);
     }
 }
