@@ -1,19 +1,19 @@
 -- The journal as a list of jobs: an acceptance enters its job in it, and leaves the lines of the others as they were.
-use Rattle.std.proofs.Common.{◌≡◌, ℕ, ◌+◌, ◌*◌, ◌<◌, ◌≤◌, Bool, true, false, cond, ◌&&◌, List, [], ◌∷◌, map, length, take, drop, sym, refl, ap, ◌∙◌, subst, arith, length-take}
-use Rattle.std.specs.List.{AllByRecursion}
+use Rattle.std.proofs.Common.{◌≡◌, ℕ, zero, suc, ◌+◌, ◌*◌, ◌<◌, ◌≤◌, true, List, [], ◌∷◌, map, length, take, drop, sym, refl, ap, ◌∙◌, subst, arith, length-take}
+use Rattle.std.specs.List.{AllByRecursion, insert}
 use Rattle.std.proofs.lemmas.List.{take_at}
 use Rattle.std.proofs.ByRecursion.{All-weaker}
-use Rattle.kinds.specs.Stamps.{Order, Ordered, Kind}
+use Rattle.kinds.specs.Stamps.{Ordered, Kind}
 use Rattle.model.specs.declared.entry.Entry.{Entry}
 use Rattle.registrar.specs.declared.journal.Head.{Head}
 use Rattle.model.specs.Tables.{laid_from}
 use Rattle.registrar.specs.Deciding.{Waiting}
-use Rattle.registrar.specs.Registry.{Registry, registry_sized, all_after, entered, taken_up}
+use Rattle.registrar.specs.Registry.{Registry, registry_sized, ahead, entered, taken_up}
 use Rattle.law.specs.Daybook.{AcceptedJob, accepted_job, line_of, job_at, journal_of}
 use Rattle.law.specs.Account.{NeverFalls}
-use Rattle.law.proofs.StampOrder.{Lt, Le, lt_le_trans}
 use Rattle.law.proofs.Views.{leaf, enter_job}
 use Rattle.model.proofs.Laid.{block_new, block_other}
+use Rattle.law.proofs.Ahead.{jobs-entered}
 use Rattle.law.proofs.Sizes.{sizes, length-entered}
 
 -- the journal is the same where its tables and its count are
@@ -26,13 +26,10 @@ PlacedBelow {S} n heads = AllByRecursion (λ (h : Head S). (h.place < n) × (h.c
 
 -- a head with its lines below n, entered among such heads
 module _ {S : Type 0} where
-  placed-entered : (o : Order S) (n : ℕ) (h : Head S) (js : List (Head S)) → (h.place < n) × (h.count ≤ 16) → PlacedBelow n js → PlacedBelow n (entered o h js)
-  placed-entered o n h [] p q = (p, tt)
-  placed-entered o n h (j ∷ js) p q = go (all_after o h.stamp (j ∷ js)) (placed-entered o n h js p q.1)
-    where
-      go : (t : Bool) → PlacedBelow n (entered o h js) → PlacedBelow n (cond t (h ∷ j ∷ js) (j ∷ entered o h js))
-      go true e = (p, q)
-      go false e = (q.0, e)
+  placed-inserted : (n m : ℕ) (h : Head S) (js : List (Head S)) → (h.place < n) × (h.count ≤ 16) → PlacedBelow n js → PlacedBelow n (insert js m h)
+  placed-inserted n zero h js p q = (p, q)
+  placed-inserted n (suc m) h [] p q = (p, tt)
+  placed-inserted n (suc m) h (j ∷ js) p q = (q.0, placed-inserted n m h js p q.1)
 
 -- the lines of a place, after others were laid at a later place
 module _ {S R : Type 0} where
@@ -46,22 +43,6 @@ module _ {S R : Type 0} where
   -- the job whose lines were laid there
   job_new : (at : ℕ) (new lines : List (Entry S R)) (s : S) (ticket : ℕ) → length new ≤ 16 → 16 * at ≤ length lines → job_at (laid_from (16 * at) new lines) (record { stamp = s; ticket = ticket; place = at; count = length new }) ≡ accepted_job s ticket (leaf new)
   job_new at new lines s ticket n l = ap (λ es. accepted_job s ticket (leaf es)) (block_new at new lines n l)
-
-  -- where no stamp falls, jobs are all after a stamp that the first of them is after
-  after_first : (o : Order S) → Ordered o → (lines : List (Entry S R)) (s b : S) (js : List (Head S)) → Lt o s b → AllByRecursion (λ (a : AcceptedJob S R). Le o b a.stamp) (map (job_at lines) js) → all_after o s js ≡ true
-  after_first o laws lines s b [] l h = refl
-  after_first o laws lines s b (j ∷ js) l h = rw (lt_le_trans o laws s b j.stamp l h.0) (after_first o laws lines s b js l h.1)
-
-  -- so a head entered is its job entered
-  jobs-entered : (o : Order S) → Ordered o → (lines : List (Entry S R)) (h : Head S) (js : List (Head S)) → NeverFalls o (map (job_at lines) js)
-      → map (job_at lines) (entered o h js) ≡ enter_job o (job_at lines h) (map (job_at lines) js)
-  jobs-entered o laws lines h [] f = refl
-  jobs-entered o laws lines h (j ∷ js) f = go (o.before h.stamp j.stamp) (all_after o h.stamp js) (λ l. after_first o laws lines h.stamp j.stamp js l f.0) refl (jobs-entered o laws lines h js f.1)
-    where
-      go : (t u : Bool) → (o.before h.stamp j.stamp ≡ true → u ≡ true) → o.before h.stamp j.stamp ≡ t → map (job_at lines) (entered o h js) ≡ enter_job o (job_at lines h) (map (job_at lines) js)
-          → map (job_at lines) (cond (t && u) (h ∷ j ∷ js) (j ∷ entered o h js)) ≡ cond t (job_at lines h ∷ job_at lines j ∷ map (job_at lines) js) (job_at lines j ∷ enter_job o (job_at lines h) (map (job_at lines) js))
-      go true u a l e = ap (λ b. map (job_at lines) (cond b (h ∷ j ∷ js) (j ∷ entered o h js))) (a l)
-      go false u a l e = ap (λ (r : List (AcceptedJob S R)). job_at lines j ∷ r) e
 
 -- An acceptance enters its job in the journal, with its lines at the next place.
 module _ {S R : Type 0} (k : Kind S) (g : Registry S R) (w : Waiting S R) (s : S) (z : registry_sized g ≡ true) (j : g.own.jobs < length g.heads) (n : length w.entries ≤ 16) (p : PlacedBelow g.own.jobs (take g.own.jobs g.heads)) where
@@ -77,10 +58,10 @@ module _ {S R : Type 0} (k : Kind S) (g : Registry S R) (w : Waiting S R) (s : S
       let new-lines = (taken_up k g w s).lines in
       let kept : map (job_at new-lines) (take g.own.jobs g.heads) ≡ journal_of g = lines_kept g.own.jobs w.entries g.lines n room (take g.own.jobs g.heads) p in
       ap (map (job_at new-lines)) heads_now
-      ∙ jobs-entered k.order laws new-lines new_head (take g.own.jobs g.heads) (subst (λ (js : List (AcceptedJob S R)). NeverFalls k.order js) (sym kept) falls)
+      ∙ jobs-entered k.order laws new-lines new_head (take g.own.jobs g.heads) (subst (λ (js : List (AcceptedJob S R)). NeverFalls k.order js) (sym kept) falls) (let t = sizes g z in let l = length-take g.own.jobs g.heads in omega (arith, l))
       ∙ (λ i. enter_job k.order (job_new g.own.jobs w.entries g.lines s w.ticket n room i) (kept i))
 
   pub placed_taken : PlacedBelow (taken_up k g w s).own.jobs (take (taken_up k g w s).own.jobs (taken_up k g w s).heads)
   placed_taken =
-      rw heads_now (placed-entered k.order (g.own.jobs + 1) new_head (take g.own.jobs g.heads) (omega arith, n)
+      rw heads_now (placed-inserted (g.own.jobs + 1) (ahead k.order s (take g.own.jobs g.heads)) new_head (take g.own.jobs g.heads) (omega arith, n)
       (All-weaker (λ (h : Head S). (h.place < g.own.jobs) × (h.count ≤ 16)) (λ (h : Head S). (h.place < g.own.jobs + 1) × (h.count ≤ 16)) (λ h q. (omega arith, q.1)) (take g.own.jobs g.heads) p))

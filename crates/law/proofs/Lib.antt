@@ -4,6 +4,7 @@ pub mod Stations
 pub mod RowLaws
 pub mod Sizes
 pub mod Queues
+pub mod Ahead
 pub mod Journals
 pub mod StampOrder
 pub mod Plays

@@ -1,5 +1,5 @@
 -- The lengths of the registrar's tables, one by one, and that every step keeps them.
-use Rattle.std.proofs.Common.{◌≡◌, ℕ, ◌+◌, ◌*◌, ◌<◌, ◌≤◌, Bool, true, false, cond, ◌&&◌, leb, List, [], ◌∷◌, length, sym, refl, ◌∙◌, arith, length-set, length-take}
+use Rattle.std.proofs.Common.{◌≡◌, ℕ, ◌+◌, ◌*◌, ◌<◌, ◌≤◌, true, ◌&&◌, leb, List, length, sym, refl, ◌∙◌, arith, length-set, length-take}
 use lib.ListN.{length-replicate}
 use Rattle.std.proofs.lemmas.Bool.{and_parts, and_from, leb-true, eqb-true, le-leb, eq-eqb}
 use Rattle.kinds.specs.Stamps.{Order, Kind}
@@ -8,7 +8,9 @@ use Rattle.model.specs.declared.verdict.Verdict.{Verdict}
 use Rattle.model.specs.Tables.{lawful_size, sized}
 use Rattle.station.specs.Station.{Station, work_of}
 use Rattle.registrar.specs.Deciding.{Waiting}
-use Rattle.registrar.specs.Registry.{Registry, tables_sized, registry_sized, founded, submitted, next_place, all_after, entered, passed_over, taken_up, cleared}
+use Rattle.registrar.proofs.Heads.{stepped_within}
+use Rattle.std.proofs.lemmas.List.Edits.{length-insert}
+use Rattle.registrar.specs.Registry.{Registry, tables_sized, registry_sized, founded, submitted, next_place, steps, ahead, entered, passed_over, taken_up, cleared}
 use Rattle.model.proofs.Laid.{length-laid, length-laid_from}
 use Rattle.law.proofs.RowLaws.{length-rows_after, length-firsts_after, length-founded}
 
@@ -120,12 +122,7 @@ module _ {S R : Type 0} where
 
 -- a head entered makes one more
 pub length-entered : {S : Type 0} (o : Order S) (h : Head S) (js : List (Head S)) → length (entered o h js) ≡ length js + 1
-length-entered o h [] = refl
-length-entered o h (j ∷ js) = go (all_after o h.stamp (j ∷ js)) (length-entered o h js)
-  where
-    go : (t : Bool) → length (entered o h js) ≡ length js + 1 → length (cond t (h ∷ j ∷ js) (j ∷ entered o h js)) ≡ length (j ∷ js) + 1
-    go true e = omega arith
-    go false e = omega arith
+length-entered o h js = length-insert js (ahead o h.stamp js) h (stepped_within o h.stamp js steps 0 (omega arith))
 
 -- Both ends of a decision leave tables of the right lengths.
 module _ {S R : Type 0} (k : Kind S) where

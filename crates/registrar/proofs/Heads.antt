@@ -1,63 +1,31 @@
--- The place of a new head in the journal, and the shift that makes room for it.
-use Rattle.std.proofs.Common.{◌≡◌, ℕ, suc, ◌+◌, ◌-◌, ◌<◌, ◌≤◌, Bool, true, false, cond, ◌&&◌, List, [], ◌∷◌, ◌++◌, length, take, drop, set, sym, refl, ap, ◌∙◌, append_assoc, arith, length-append, length-drop, length-set, length-take}
-use lib.Dec.{eqb}
-use mathlib.Core.List.{reverse, reverse-cons}
+-- The place of a new head in the journal lies in it, and the shift that makes room for it.
+use Rattle.std.proofs.Common.{true≢false, ◌≡◌, ℕ, zero, suc, ◌+◌, ◌-◌, ◌<◌, ◌≤◌, Bool, true, false, cond, List, [], ◌∷◌, ◌++◌, length, take, drop, fold, set, sym, refl, ap, ◌∙◌, append_assoc, arith, length-append, length-drop, length-set, length-take}
 use borrow.Rule.Slice.PartMut.{put_mid}
-use Rattle.std.specs.List.{insert, between, list_all, prefix_len, suffix_len}
-use Rattle.std.proofs.lemmas.List.{length-reverse, take_at, drop_at, drop-drop, take-take, take-set, take-set-le, drop-set-lt, get_or-set_same, length-take-le}
+use Rattle.std.specs.List.{insert, between}
+use Rattle.std.proofs.lemmas.List.{take_at, drop_at, drop-drop, take-take, take-set, take-set-le, drop-set-lt, get_or-set_same, length-take-le}
 use Rattle.std.proofs.lemmas.List.Edits.{between_more, length-insert}
-use Rattle.std.proofs.lemmas.List.Folds.{prefix_len-append}
-use Rattle.std.proofs.lemmas.List.Sums.{prefix_len-le-length}
-use Rattle.std.proofs.lemmas.Bool.{eqb-true, eq-eqb, ne_eqb}
 use Rattle.std.proofs.lemmas.Slice.{between_is}
 use Rattle.kinds.specs.Stamps.{Order}
 use Rattle.model.specs.Tables.{laid}
 use Rattle.registrar.specs.declared.journal.Head.{Head}
-use Rattle.registrar.specs.Registry.{all_after, entered}
-use Rattle.registrar.specs.Calls.{ahead}
+use Rattle.registrar.specs.Registry.{reached, stepped}
 
--- how many members at the end of a list pass a test, with one more in front
-module _ {A : Type 0} (p : A → Bool) where
-  pub suffix_within : (xs : List A) → suffix_len p xs ≤ length xs
-  suffix_within xs = let a = prefix_len-le-length p (reverse xs) in let b = length-reverse xs in omega (arith, a, b)
+module _ {S : Type 0} (o : Order S) (s : S) where
+  -- what is reached is there
+  reached_within : (js : List (Head S)) (n : ℕ) → reached o s js n ≡ true → n ≤ length js
+  reached_within js zero e = omega arith
+  reached_within [] (suc n) e = absurd (true≢false (sym e))
+  reached_within (j ∷ js) (suc zero) e = omega arith
+  reached_within (j ∷ js) (suc (suc n)) e = let r = reached_within js (suc n) e in omega (arith, r)
 
-  suffix_more : (x : A) (xs : List A) → suffix_len p (x ∷ xs) ≡ cond (eqb (suffix_len p xs) (length xs)) (length xs + cond (p x) 1 0) (suffix_len p xs)
-  suffix_more x xs =
-      ap (prefix_len p) (reverse-cons x xs) ∙ prefix_len-append p (reverse xs) (x ∷ [])
-      ∙ ap (λ n. cond (eqb (suffix_len p xs) n) (n + cond (p x) 1 0) (suffix_len p xs)) (length-reverse xs)
-
-  -- all pass, or the same as without it
-  suffix_all : (xs : List A) → eqb (suffix_len p xs) (length xs) ≡ list_all p xs
-  suffix_all [] = refl
-  suffix_all (x ∷ xs) = ap (λ n. eqb n (suc (length xs))) (suffix_more x xs ∙ ap (λ b. cond b (length xs + cond (p x) 1 0) (suffix_len p xs)) (suffix_all xs)) ∙ go (p x) (list_all p xs)
+  -- so no search ends behind the last job
+  pub stepped_within : (js : List (Head S)) (steps : List ℕ) (place : ℕ) → place ≤ length js → fold (stepped o s js) place steps ≤ length js
+  stepped_within js [] place l = l
+  stepped_within js (step ∷ steps) place l = stepped_within js steps (stepped o s js place step) (go (reached o s js (place + step)) (reached_within js (place + step)))
     where
-      go : (u t : Bool) → eqb (cond t (length xs + cond u 1 0) (suffix_len p xs)) (suc (length xs)) ≡ u && t
-      go true true = eq-eqb _ _ (omega arith)
-      go false true = ne_eqb _ _ (λ e. absurd (omega (arith, e)))
-      go true false = ne_eqb _ _ (λ e. let w = suffix_within xs in absurd (omega (arith, e, w)))
-      go false false = ne_eqb _ _ (λ e. let w = suffix_within xs in absurd (omega (arith, e, w)))
-
-  -- the place behind the last that does not pass
-  pub behind_more : (x : A) (xs : List A) → length (x ∷ xs) - suffix_len p (x ∷ xs) ≡ cond (list_all p (x ∷ xs)) 0 (suc (length xs - suffix_len p xs))
-  behind_more x xs =
-      ap (λ n. suc (length xs) - n) (suffix_more x xs ∙ ap (λ b. cond b (length xs + cond (p x) 1 0) (suffix_len p xs)) (suffix_all xs))
-      ∙ go (p x) (list_all p xs) (suffix_all xs)
-    where
-      go : (u t : Bool) → eqb (suffix_len p xs) (length xs) ≡ t → suc (length xs) - cond t (length xs + cond u 1 0) (suffix_len p xs) ≡ cond (u && t) 0 (suc (length xs - suffix_len p xs))
-      go true true e = omega arith
-      go false true e = let q = eqb-true _ _ e in omega (arith, q)
-      go true false e = let w = suffix_within xs in omega (arith, w)
-      go false false e = let w = suffix_within xs in omega (arith, w)
-
-module _ {S : Type 0} (o : Order S) where
-  pub entered_at : (h : Head S) (js : List (Head S)) → insert js (ahead o h.stamp js) h ≡ entered o h js
-  entered_at h [] = refl
-  entered_at h (j ∷ js) =
-      ap (λ n. insert (j ∷ js) n h) (behind_more (λ (i : Head S). o.before h.stamp i.stamp) j js) ∙ go (all_after o h.stamp (j ∷ js)) (entered_at h js)
-    where
-      go : (t : Bool) → insert js (ahead o h.stamp js) h ≡ entered o h js → insert (j ∷ js) (cond t 0 (suc (ahead o h.stamp js))) h ≡ cond t (h ∷ j ∷ js) (j ∷ entered o h js)
-      go true e = refl
-      go false e = ap (λ (r : List (Head S)). j ∷ r) e
+      go : (t : Bool) → (t ≡ true → place + step ≤ length js) → cond t (place + step) place ≤ length js
+      go true r = r refl
+      go false r = l
 
 -- A content written behind the first n and turned to place p.
 module _ {A : Type 0} (xs : List A) (n p : ℕ) (x : A) (le : p ≤ n) (lt : n < length xs) where

@@ -1,4 +1,4 @@
 mod Outcomes
-mod Heads
+pub mod Heads
 mod Wholes
 mod Decisions

@@ -1,7 +1,5 @@
 -- What a call leaves, put together from the registrar's numbers and the tables that were handed in.
-use Rattle.std.specs.Prelude.{◌≡◌, ℕ, ◌-◌, ◌*◌, ◌≤◌, List, length, Ok, Err, Option, Result}
-use Rattle.std.specs.List.{suffix_len}
-use Rattle.kinds.specs.Stamps.{Order}
+use Rattle.std.specs.Prelude.{◌≡◌, ℕ, ◌*◌, ◌≤◌, List, length, Ok, Err, Option, Result}
 use Rattle.std.specs.Borrow.{MutBor}
 use Rattle.model.specs.declared.entry.Entry.{Entry}
 use Rattle.model.specs.declared.row.Row.{Row}
@@ -99,10 +97,6 @@ handed_in j s = record { answer = or_job j s.answer; registry = s.registry }
 -- a job with its sheet
 abbrev pub station_of : {S R : Type 0} → Job S → List (Entry S R) → Station S R
 station_of j sheet = record { job = j; sheet = sheet }
-
--- how many heads there are but for those at the end whose stamps are all after the given one
-abbrev pub ahead : {S : Type 0} → Order S → S → List (Head S) → ℕ
-ahead {S} o s js = length js - suffix_len (λ (j : Head S). o.before s j.stamp) js
 
 -- what a verdict comes to: with a stamp where it accepts, else as it is
 abbrev pub by_stamp : {S A : Type 0} → Verdict S → A → (S → A) → A

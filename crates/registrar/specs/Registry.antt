@@ -1,6 +1,6 @@
 -- The registrar with its tables, and what found, submit, decide, publish, settle and waive do.
-use Rattle.std.specs.Prelude.{ℕ, zero, suc, ◌+◌, ◌-◌, ◌*◌, ◌%◌, min, Bool, true, false, cond, not, ◌&&◌, List, [], ◌∷◌, ◌++◌, length, take, drop, replicate, Some, None, Ok, Err, Option, Result, ◌==◌, nat_le, slice_set}
-use Rattle.std.specs.List.{slice_get, list_all}
+use Rattle.std.specs.Prelude.{ℕ, zero, suc, ◌+◌, ◌-◌, ◌*◌, ◌%◌, min, Bool, true, false, cond, not, ◌&&◌, List, [], ◌∷◌, ◌++◌, length, take, drop, replicate, fold, Some, None, Ok, Err, Option, Result, ◌==◌, nat_le, slice_set}
+use Rattle.std.specs.List.{slice_get, insert}
 use Rattle.kinds.specs.Stamps.{Order, Kind}
 use Rattle.model.specs.declared.entry.Entry.{Entry}
 use Rattle.model.specs.declared.row.Row.{Row}
@@ -143,16 +143,33 @@ module _ {S R : Type 0} where
   abbrev pub submit : Registry S R → Station S R → Settled S R ℕ
   submit g t = unless (submit_refused g t) g (record { answer = Ok (g.own.tickets + 1); registry = submitted g t })
 
+-- the steps in which a place in the journal is sought: from half the longest journal down to 1
+abbrev pub steps : List ℕ
+steps = 2048 ∷ 1024 ∷ 512 ∷ 256 ∷ 128 ∷ 64 ∷ 32 ∷ 16 ∷ 8 ∷ 4 ∷ 2 ∷ 1 ∷ []
+
 -- The journal: in final order, each job's lines at the place where they were first written.
 module _ {S : Type 0} (o : Order S) where
-  -- whether some jobs all have stamps after the given one
-  abbrev pub all_after : S → List (Head S) → Bool
-  all_after s js = list_all (λ (j : Head S). o.before s j.stamp) js
+  -- whether a job is there, and its stamp is not after the given one
+  abbrev pub not_after : S → Option (Head S) → Bool
+  not_after s None = false
+  not_after s (Some j) = not (o.before s j.stamp)
 
-  -- behind every job whose stamp is not after
+  -- whether so many jobs are there, and the last of them is not after
+  abbrev pub reached : S → List (Head S) → ℕ → Bool
+  reached s js zero = false
+  reached s js (suc n) = not_after s (slice_get js n)
+
+  -- a step is taken where it reaches a job that is not after
+  abbrev pub stepped : S → List (Head S) → ℕ → ℕ → ℕ
+  stepped s js place step = cond (reached s js (place + step)) (place + step) place
+
+  -- how many jobs are ahead of a stamp, by steps of half the length each: in final order, all that are not after it
+  abbrev pub ahead : S → List (Head S) → ℕ
+  ahead s js = fold (stepped s js) 0 steps
+
+  -- behind those ahead of it; those behind it move up by one
   abbrev pub entered : Head S → List (Head S) → List (Head S)
-  entered h [] = h ∷ []
-  entered h (j ∷ js) = cond (all_after h.stamp (j ∷ js)) (h ∷ j ∷ js) (j ∷ entered h js)
+  entered h js = insert js (ahead h.stamp js) h
 
 -- the queue without its oldest, and one outcome more
 abbrev pub decided_own : Registrar → ℕ → Registrar

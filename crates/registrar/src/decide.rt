@@ -4,7 +4,7 @@ ghost use Rattle.registrar.specs.Registry.{decide as decided_by};
 ghost use Rattle.registrar.specs.Calls.{registry_left, registry_in, settled_as, by_stamp};
 
 use crate::bundle::Tables;
-use crate::journal::{Head, record};
+use crate::journal::{head_of, record};
 use crate::places::{block, lay};
 use crate::registrar::Registrar;
 use crate::rows::{enter_all, mark_all};
@@ -72,12 +72,7 @@ impl Registrar {
         if let Some(stamp) = stamp_of(verdict) {
             enter_all(rows, entries, stamp);
             mark_all(firsts, entries, stamp);
-            let head = Head {
-                stamp,
-                ticket,
-                place: self.jobs,
-                count: entries.len(),
-            };
+            let head = head_of(stamp, ticket, self.jobs, entries.len());
             record(heads, self.jobs, head);
             lay(lines, 16 * self.jobs, entries);
             self.jobs += 1;

@@ -124,9 +124,10 @@ impl<S: Notation, R: Notation> fmt::Display for ShownHead<'_, S, R> {
         let head = self.head;
         let stamp = Shown(head.stamp);
         let ticket = head.ticket;
-        let start = head.place.saturating_mul(LINES);
+        let start = LINES * usize::from(head.place);
+        let count = usize::from(head.count);
         write!(f, "  {stamp} ticket {ticket} looks")?;
-        let lines = self.lines.iter().skip(start).take(head.count);
+        let lines = self.lines.iter().skip(start).take(count);
         for entry in lines.filter(|entry| entry.seen) {
             let record = entry.number;
             let noted = Shown(entry.noted);
@@ -134,7 +135,7 @@ impl<S: Notation, R: Notation> fmt::Display for ShownHead<'_, S, R> {
             write!(f, " {record}@{noted}={saw}")?;
         }
         write!(f, " puts")?;
-        let lines = self.lines.iter().skip(start).take(head.count);
+        let lines = self.lines.iter().skip(start).take(count);
         for entry in lines.filter(|entry| entry.put) {
             let record = entry.number;
             let wrote = Shown(entry.wrote);

@@ -10,7 +10,7 @@ use Rattle.readback.specs.ReadsBack.{RunStatedBy}
 use Rattle.readback.proofs.RunsBack.{run_reads}
 use Rattle.writer.specs.declared.unwritten.Unwritten.{Unwritten}
 use Rattle.writer.specs.declared.unwritten.Unwritten.TheVariants.{WrongTables, SpaceShort}
-use Rattle.writer.specs.Written.{Writing, writing_as, laid_down, archive_of, written}
+use Rattle.writer.specs.Written.{Writing, writing_as, archive_of, written}
 
 module _ (archive space left : List ℕ) (n : ℕ) where
   pub front_of : (sized room : Bool)

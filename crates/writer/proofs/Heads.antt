@@ -1,8 +1,7 @@
 -- The entries of the journal's heads, and the pairs and blocks that they make.
-use Rattle.std.proofs.Common.{◌≡◌, ℕ, ◌+◌, ◌*◌, ◌<◌, ◌≤◌, min, List, [], ◌∷◌, ◌++◌, length, get_or, take, drop, sym, ap, ◌∙◌, ⊎_elim, arith}
+use Rattle.std.proofs.Common.{◌≡◌, ℕ, ◌+◌, ◌*◌, ◌<◌, ◌≤◌, List, [], ◌∷◌, ◌++◌, length, get_or, take, sym, ap, ◌∙◌, arith}
 use Rattle.std.specs.List.{sum}
-use Rattle.std.proofs.lemmas.Bool.{cases_lt}
-use Rattle.std.proofs.lemmas.List.{length-map, length-take-le, drop_all, map_more}
+use Rattle.std.proofs.lemmas.List.{length-map, length-take-le, map_more}
 use Rattle.std.proofs.lemmas.List.Sums.{sum-map, sum_by-cons}
 use Rattle.std.proofs.lemmas.List.Concat.{length-flat_map}
 use Rattle.kinds.specs.Bytes.{be4}
@@ -16,11 +15,6 @@ use Rattle.writer.specs.declared.laying.Pen.{Pen}
 use Rattle.writer.specs.Pens.{HasRoom, Lays}
 use Rattle.writer.specs.Jobs.{block_of, blocks_of, lengths_of}
 use Rattle.writer.proofs.Pens.{lays_as, lays_room, lays_both}
-
--- where a head's lines start, or the end of the table
-pub dropped : {X : Type 0} (n start most : ℕ) (xs : List X) → length xs ≤ most → start ≡ min (min (n * 16) most) (length xs) → drop start xs ≡ drop (16 * n) xs
-dropped n start most xs l e =
-    ⊎_elim (λ h. ap (λ m. drop m xs) (omega arith)) (λ h. drop_all start xs (omega arith) ∙ sym (drop_all (16 * n) xs h)) (cases_lt (16 * n) (length xs))
 
 -- the pair of a part behind others
 pub pairs_behind : (from : ℕ) (ms : List ℕ) (n : ℕ) → pairs_bytes from ms ++ (be4 (from + sum ms) ++ be4 n) ≡ pairs_bytes from (ms ++ n ∷ [])

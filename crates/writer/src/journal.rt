@@ -19,8 +19,8 @@ fn entries<S: Stamp, R: Record>(lines: &[Entry<S, R>], head: Head<S>) -> &[Entry
     ensures entries { result.now ≡ entries_of lines.now head }
     ensures few { length result.now ≤ 16 }
 {
-    let start = head.place.saturating_mul(16).min(lines.len());
-    front(front(&lines[start..], 16), head.count)
+    let start = (16 * usize::from(head.place)).min(lines.len());
+    front(front(&lines[start..], 16), usize::from(head.count))
 }
 
 // How many bytes the block of a job of the journal has: at most 592.

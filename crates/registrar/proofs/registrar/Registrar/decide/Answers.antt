@@ -1,4 +1,6 @@
 use Rattle.std.proofs.Common.{◌%◌, ◌<◌, length, take, sym, refl, ap, ◌∙◌, add-zero, arith, length-take, rules}
+use Rattle.model.specs.Tables.{laid}
+use Rattle.registrar.specs.Registry.{entered}
 use Rattle.registrar.specs.Calls.{registry_in}
 use Rattle.registrar.proofs.Decisions.{stamped, unstamped, own_decided, decide_beyond, decide_full, decide_crowded, decide_whole}
 use Rattle.registrar.proofs.registrar.Registrar.decide.Goals as goal
@@ -34,6 +36,12 @@ returns-then-self-ge32 g c =
     (sym c.if-not-fit.ensures.told) c.if-self-eq0.false (c.if-not-fit.ensures.lengths refl).queue c.index-queue-place.is
     (c.front-entries.ensures ∙ ap (take c.index-queue-place.result.count) c.block.ensures) (sym c.if-beyond.ensures) c.if-self-heads.false c.if-self-ge32.true
 
+pub head_of-head-requires-clause-count : goal.head_of-head-requires-clause-count
+head_of-head-requires-clause-count g c =
+    let b = ap length c.block.ensures ∙ length-take 16 _ in
+    let n = ap length c.front-entries.ensures ∙ length-take c.index-queue-place.result.count c.block.result.now in
+    omega arith
+
 pub lay-requires : goal.lay-requires
 lay-requires g c =
     let fits = c.if-not-fit.ensures.lengths refl in
@@ -52,7 +60,7 @@ returns g c =
           (c.front-entries.ensures ∙ ap (take c.index-queue-place.result.count) c.block.ensures) (sym c.if-beyond.ensures) c.if-self-heads.false c.if-self-ge32.false
           c.verdict-verdict.ensures (stamped v w.in-Some.ensures 0 (λ _. 1)) (w.self-is ∙ own_decided own 1 c.min.ensures refl)
           (w.rows-is ∙ w.enter_all.ensures ∙ stamped v w.in-Some.ensures _ _) (w.firsts-is ∙ w.mark_all.ensures ∙ stamped v w.in-Some.ensures _ _)
-          (w.heads-is ∙ w.record.ensures ∙ stamped v w.in-Some.ensures _ _) (w.lines-is ∙ w.lay.ensures ∙ stamped v w.in-Some.ensures _ _) c.store.ensures
+          (w.heads-is ∙ w.record.ensures ∙ ap (λ h. laid (entered g.S.Stamp.kind.order h (take own.jobs c.args.tables.heads.now)) c.args.tables.heads.now) w.head_of-head.ensures ∙ stamped v w.in-Some.ensures _ _) (w.lines-is ∙ w.lay.ensures ∙ stamped v w.in-Some.ensures _ _) c.store.ensures
       | in_default w ↦
           decide_whole g.S.Stamp.kind (registry_in own c.args.tables) c.index-queue-place.result c.front-entries.result.now
           (sym c.if-not-fit.ensures.told) c.if-self-eq0.false (c.if-not-fit.ensures.lengths refl).queue c.index-queue-place.is
