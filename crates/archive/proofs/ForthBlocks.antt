@@ -17,7 +17,8 @@ use Rattle.archive.specs.Blocks.{stamp_at, all_noted, read_block, read_blocks}
 use Rattle.archive.specs.Journal.{look_bytes, put_bytes, block_bytes, block_lengths, seen_look, stated_looks, seen_put, stated_puts, stated_job, seen_job, stated_jobs}
 use Rattle.archive.proofs.Forth.{pair_stands}
 use Rattle.archive.proofs.KnownBlocks.{block_met}
-use Rattle.archive.proofs.Stands.{Stands, join, bytes_part, part_length}
+use Rattle.archive.proofs.Long.{look_long, put_long, looks_long, block_long}
+use Rattle.archive.proofs.Stands.{Stands, join, moved, bytes_part, part_length}
 use Rattle.archive.proofs.Fields.{take-listed, stands4, stands2, guarded, bound, ok_same}
 
 module _ {S R : Type 0} (o : Order S) (f : Form R) (laws : Formed 8 o.form) (formed : Formed 12 f) (bs : List ℕ) (t : Bytes bs) where
@@ -38,16 +39,13 @@ module _ {S R : Type 0} (o : Order S) (f : Form R) (laws : Formed 8 o.form) (for
       far : at + 10 ≡ at + 2 + length (o.form.written s)
       far = let w = laws.wide s in omega arith
 
-  look_long : (l : Look S R) → length (look_bytes o f l) ≡ 22
-  look_long l = let w = formed.wide l.saw.value in let x = laws.wide l.saw.stamp in let a = length-append (o.form.written l.saw.stamp) (f.written l.saw.value) in omega arith
-
   looks_step : (at m : ℕ) (u0 : Option S) (p : Option R) → at + 22 ≤ length bs → stamp_at o bs (at + 2) ≡ u0 → f.read (part bs (at + 10) 12) ≡ p
       → (ls : List (Look S R)) (b : Bool) (rest : Result (Unit {0}) Fault) → (is_some u0 && b) ≡ true → onward (ok_or p (ValueWrong (at + 10))) (λ _. rest) ≡ Ok tt
       → (b ≡ true → rest ≡ Ok tt → Stands bs (at + 22) (flat_map (look_bytes o f) ls) × (length ls ≡ m))
       → Stands bs at (flat_map (look_bytes o f) (seen_look o f (number2 (part bs at 2)) u0 p ls)) × (length (seen_look o f (number2 (part bs at 2)) u0 p ls) ≡ suc m)
   looks_step at m (Some s) (Some v) h e q ls b rest x y ih =
       let l : Look S R = record { number = number2 (part bs at 2); saw = record { value = v; stamp = s } } in
-      (join bs at (look_bytes o f l) (flat_map (look_bytes o f) ls) (look_stands at s v h e q) (subst (λ (n : ℕ). Stands bs (at + n) (flat_map (look_bytes o f) ls)) (sym (look_long l)) (ih x y).0), ap suc (ih x y).1)
+      (join bs at (look_bytes o f l) (flat_map (look_bytes o f) ls) (look_stands at s v h e q) (subst (λ (n : ℕ). Stands bs (at + n) (flat_map (look_bytes o f) ls)) (sym (look_long o f laws formed l)) (ih x y).0), ap suc (ih x y).1)
   looks_step at m (Some s) None h e q ls b rest x y ih = let z : ◌≡◌ {A = ℕ} 0 1 = cc in absurd (omega arith)
   looks_step at m None p h e q ls b rest x y ih = let z : ◌≡◌ {A = ℕ} 0 1 = cc in absurd (omega arith)
 
@@ -65,16 +63,13 @@ module _ {S R : Type 0} (o : Order S) (f : Form R) (laws : Formed 8 o.form) (for
   put_stands : (at : ℕ) (v : R) → at + 14 ≤ length bs → f.read (part bs (at + 2) 12) ≡ Some v → Stands bs at (put_bytes o f (record { number = number2 (part bs at 2); value = v }))
   put_stands at v h q = join bs at (be2 (number2 (part bs at 2))) (f.written v) (stands2 bs t at (omega arith)) (value_stands (at + 2) v (omega arith) q)
 
-  put_long : (p : Put R) → length (put_bytes o f p) ≡ 14
-  put_long p = let w = formed.wide p.value in omega arith
-
   puts_step : (at m : ℕ) (p : Option R) → at + 14 ≤ length bs → f.read (part bs (at + 2) 12) ≡ p
       → (ls : List (Put R)) (rest : Result (Unit {0}) Fault) → onward (ok_or p (ValueWrong (at + 2))) (λ _. rest) ≡ Ok tt
       → (rest ≡ Ok tt → Stands bs (at + 14) (flat_map (put_bytes o f) ls) × (length ls ≡ m))
       → Stands bs at (flat_map (put_bytes o f) (seen_put o f (number2 (part bs at 2)) p ls)) × (length (seen_put o f (number2 (part bs at 2)) p ls) ≡ suc m)
   puts_step at m (Some v) h q ls rest y ih =
       let l : Put R = record { number = number2 (part bs at 2); value = v } in
-      (join bs at (put_bytes o f l) (flat_map (put_bytes o f) ls) (put_stands at v h q) (subst (λ (n : ℕ). Stands bs (at + n) (flat_map (put_bytes o f) ls)) (sym (put_long l)) (ih y).0), ap suc (ih y).1)
+      (join bs at (put_bytes o f l) (flat_map (put_bytes o f) ls) (put_stands at v h q) (subst (λ (n : ℕ). Stands bs (at + n) (flat_map (put_bytes o f) ls)) (sym (put_long o f laws formed l)) (ih y).0), ap suc (ih y).1)
   puts_step at m None h q ls rest y ih = let z : ◌≡◌ {A = ℕ} 0 1 = cc in absurd (omega arith)
 
   pub puts_stand : (m at : ℕ) → at + 14 * m ≤ length bs → read_values f bs (at + 2) 14 m ≡ Ok tt
@@ -87,22 +82,6 @@ module _ {S R : Type 0} (o : Order S) (f : Form R) (laws : Formed 8 o.form) (for
     where
       swap : (at : ℕ) → at + 2 + 14 ≡ at + 14 + 2
       swap at = omega arith
-
-  -- lengths
-  looks_long : (ls : List (Look S R)) → length (flat_map (look_bytes o f) ls) ≡ 22 * length ls
-  looks_long [] = refl
-  looks_long (l ∷ ls) = let a = length-append (look_bytes o f l) (flat_map (look_bytes o f) ls) in let b = look_long l in let c = looks_long ls in let m = mul-suc 22 (length ls) in omega arith
-
-  puts_long : (ls : List (Put R)) → length (flat_map (put_bytes o f) ls) ≡ 14 * length ls
-  puts_long [] = refl
-  puts_long (l ∷ ls) = let a = length-append (put_bytes o f l) (flat_map (put_bytes o f) ls) in let b = put_long l in let c = puts_long ls in let m = mul-suc 14 (length ls) in omega arith
-
-  pub block_long : (j : AcceptedJob S R) → length (block_bytes o f j) ≡ 16 + 22 * length j.looks + 14 * length j.puts
-  block_long j =
-      let a = length-append (flat_map (look_bytes o f) j.looks) (flat_map (put_bytes o f) j.puts) in let b = looks_long j.looks in let c = puts_long j.puts in let w = laws.wide j.stamp in let d = length-append (o.form.written j.stamp) (be4 j.ticket ++ ((length j.looks ∷ length j.puts ∷ 0 ∷ 0 ∷ []) ++ (flat_map (look_bytes o f) j.looks ++ flat_map (put_bytes o f) j.puts))) in omega arith
-
-  moved : (xs : List ℕ) {m n : ℕ} → m ≡ n → Stands bs m xs → Stands bs n xs
-  moved xs e p = subst (λ (i : ℕ). Stands bs i xs) e p
 
   small_stands : (at r p : ℕ) → at + 16 ≤ length bs → get_or bs (at + 12) 0 ≡ r → get_or bs (at + 13) 0 ≡ p → get_or bs (at + 14) 0 ≡ 0 → get_or bs (at + 15) 0 ≡ 0 → Stands bs (at + 12) (r ∷ p ∷ 0 ∷ 0 ∷ [])
   small_stands at r p h e0 e1 e2 e3 =
@@ -133,12 +112,12 @@ module _ {S R : Type 0} (o : Order S) (f : Form R) (laws : Formed 8 o.form) (for
       let lb : List ℕ = flat_map (look_bytes o f) ls in
       let pb : List ℕ = flat_map (put_bytes o f) ps in
       let mid : List ℕ = length ls ∷ length ps ∷ 0 ∷ 0 ∷ [] in
-      let tail : Stands bs (at + 16) (lb ++ pb) = join bs (at + 16) lb pb l.0 (moved pb (ap (λ n. at + 16 + n) (sym (looks_long ls ∙ ap (λ n. 22 * n) l.1))) u.0) in
+      let tail : Stands bs (at + 16) (lb ++ pb) = join bs (at + 16) lb pb l.0 (moved bs pb (ap (λ n. at + 16 + n) (sym (looks_long o f laws formed ls ∙ ap (λ n. 22 * n) l.1))) u.0) in
       let m4 : Stands bs (at + 12) mid = small_stands at (length ls) (length ps) (omega arith) (sym l.1) (sym u.1) z0 z1 in
-      let t2 : Stands bs (at + 12) (mid ++ (lb ++ pb)) = join bs (at + 12) mid (lb ++ pb) m4 (moved (lb ++ pb) (plus at 12 4) tail) in
-      let t3 : Stands bs (at + 8) (be4 (number4 (part bs (at + 8) 4)) ++ (mid ++ (lb ++ pb))) = join bs (at + 8) (be4 (number4 (part bs (at + 8) 4))) (mid ++ (lb ++ pb)) (stands4 bs t (at + 8) (omega arith)) (moved (mid ++ (lb ++ pb)) (plus at 8 4) t2) in (
-        join bs at (o.form.written s) (be4 (number4 (part bs (at + 8) 4)) ++ (mid ++ (lb ++ pb))) (stamp_stands at s (omega arith) e) (moved (be4 (number4 (part bs (at + 8) 4)) ++ (mid ++ (lb ++ pb))) (ap (λ n. at + n) (sym (laws.wide s))) t3),
-        block_long (stated_job o f bs at s) ∙ ap (λ n. 16 + 22 * n + 14 * length ps) l.1 ∙ ap (λ n. 16 + 22 * get_or bs (at + 12) 0 + 14 * n) u.1,
+      let t2 : Stands bs (at + 12) (mid ++ (lb ++ pb)) = join bs (at + 12) mid (lb ++ pb) m4 (moved bs (lb ++ pb) (plus at 12 4) tail) in
+      let t3 : Stands bs (at + 8) (be4 (number4 (part bs (at + 8) 4)) ++ (mid ++ (lb ++ pb))) = join bs (at + 8) (be4 (number4 (part bs (at + 8) 4))) (mid ++ (lb ++ pb)) (stands4 bs t (at + 8) (omega arith)) (moved bs (mid ++ (lb ++ pb)) (plus at 8 4) t2) in (
+        join bs at (o.form.written s) (be4 (number4 (part bs (at + 8) 4)) ++ (mid ++ (lb ++ pb))) (stamp_stands at s (omega arith) e) (moved bs (be4 (number4 (part bs (at + 8) 4)) ++ (mid ++ (lb ++ pb))) (ap (λ n. at + n) (sym (laws.wide s))) t3),
+        block_long o f laws formed (stated_job o f bs at s) ∙ ap (λ n. 16 + 22 * n + 14 * length ps) l.1 ∙ ap (λ n. 16 + 22 * get_or bs (at + 12) 0 + 14 * n) u.1,
       )
     where
       plus : (a b c : ℕ) → a + (b + c) ≡ a + b + c
@@ -169,7 +148,7 @@ module _ {S R : Type 0} (o : Order S) (f : Form R) (laws : Formed 8 o.form) (for
       let n : ℕ = stated_length bs dir in
       let bb : List ℕ = block_bytes o f (stated_job o f bs at s) in
       let jb : List ℕ = flat_map (block_bytes o f) js in
-      let body : Stands bs at (bb ++ jb) = join bs at bb jb q (moved jb (ap (λ i. at + i) (sym l)) ih.1) in
+      let body : Stands bs at (bb ++ jb) = join bs at bb jb q (moved bs jb (ap (λ i. at + i) (sym l)) ih.1) in
       let rest : Stands bs (dir + 8) (pairs_bytes (at + stated_length bs dir) (block_lengths o f js)) = ih.0 in
       let pairs : Stands bs dir (be4 at ++ (be4 (stated_length bs dir) ++ pairs_bytes (at + stated_length bs dir) (block_lengths o f js))) = join bs dir (be4 at ++ be4 (stated_length bs dir)) (pairs_bytes (at + stated_length bs dir) (block_lengths o f js)) p rest in
       let pairs2 : Stands bs dir (pairs_bytes at (length bb ∷ block_lengths o f js)) = subst (λ (i : ℕ). Stands bs dir (pairs_bytes at (i ∷ block_lengths o f js))) (sym l) pairs in

@@ -8,6 +8,7 @@ pub mod Stands
 pub mod Fields
 pub mod Forth
 pub mod KnownBlocks
+pub mod Long
 pub mod ForthBlocks
 pub mod OneForm
 pub mod RowLaws

@@ -1,5 +1,5 @@
 -- Bytes that stand at a place of a list.
-use Rattle.std.proofs.Common.{◌≡◌, ℕ, ◌+◌, ◌≤◌, List, ◌++◌, length, get_or, take, drop, sym, refl, ap, ◌∙◌, ⊎_elim, arith}
+use Rattle.std.proofs.Common.{◌≡◌, ℕ, ◌+◌, ◌≤◌, List, ◌++◌, length, get_or, take, drop, sym, refl, ap, ◌∙◌, subst, ⊎_elim, arith}
 use Rattle.std.proofs.lemmas.List.{length-take, length-drop, length-append, take-take, take_at, drop_at, drop-drop, drop-take, take-append-drop, get_or-take, get_or-drop, get_or_past, take_all}
 use Rattle.std.proofs.lemmas.Bool.{cases_lt}
 use Rattle.kinds.specs.Bytes.{Bytes, part}
@@ -18,6 +18,10 @@ module _ (bs : List ℕ) where
       ∙ ap (λ zs. zs ++ take (length ys) (drop (length xs) (drop at bs))) p
       ∙ ap (λ zs. xs ++ take (length ys) zs) (drop-drop (length xs) at bs)
       ∙ ap (λ zs. xs ++ zs) q
+
+  -- the same place by another name
+  pub moved : (xs : List ℕ) {m n : ℕ} → m ≡ n → Stands bs m xs → Stands bs n xs
+  moved xs e p = subst (λ (i : ℕ). Stands bs i xs) e p
 
   whole : (at : ℕ) (xs ys : List ℕ) → Stands bs at (xs ++ ys) → part bs at (length xs + length ys) ≡ xs ++ ys
   whole at xs ys p = ap (λ n. part bs at n) (sym (length-append xs ys)) ∙ p

@@ -17,13 +17,14 @@ use Rattle.readback.specs.Accepted.{SoundArchive, AcceptedExactly, AcceptedIsSou
 use Rattle.readback.proofs.BackDown.{Down, down}
 use Rattle.readback.proofs.Back.{borne_out, sound_reads_back}
 use Rattle.readback.proofs.JobsSay.{jobs_say}
-use Rattle.readback.proofs.PlaysStated.{ArchiveSays, values_length, archive_says}
+use Rattle.archive.proofs.Long.{values_long}
+use Rattle.readback.proofs.PlaysStated.{ArchiveSays, archive_says}
 
 module _ {S R : Type 0} (o : Order S) (k : RecordKind R) (laws : Ordered o) (formed : Written k) where
   -- what was read without the play is orderly
   orderly_stated : (bs : List ℕ) (h : Heading) → Bytes bs → ArchiveSays o k bs h → length (stated_journal o k bs) ≡ stated_count bs → Orderly o (stated_opening o k bs) (stated_journal o k bs)
   orderly_stated bs h t z l =
-      let v = values_length o k.form bs (stated_records bs) (20 + 8 * stated_count bs) z.values in
+      let v = values_long k.form bs (stated_records bs) (20 + 8 * stated_count bs) z.values in
       let j = jobs_say o k.form bs laws t (stated_count bs) 20 (20 + 8 * stated_count bs + 12 * stated_records bs) (stated_records bs) z.end o.least z.blocks in
       let a = z.some_records in
       let b = z.few_records in
@@ -46,7 +47,7 @@ module _ {S R : Type 0} (o : Order S) (k : RecordKind R) (laws : Ordered o) (for
       let b = bound (read_play o bs a.0.records a.0.jobs) (λ _. Ok a.0.jobs) j a.2 in
       let z = archive_says o k bs a.0 a.1 in
       let lj : length js ≡ a.0.jobs = form.1 ∙ sym (ok_same _ _ b.2) in
-      let lv : length vs ≡ a.0.records = values_length o k.form bs (stated_records bs) (20 + 8 * stated_count bs) z.values ∙ ap (λ (h : Heading). h.records) z.heading in
+      let lv : length vs ≡ a.0.records = values_long k.form bs (stated_records bs) (20 + 8 * stated_count bs) z.values ∙ ap (λ (h : Heading). h.records) z.heading in
       let orderly = orderly_stated bs a.0 t z (lj ∙ sym (ap (λ (h : Heading). h.jobs) z.heading)) in
       let d : Down o k bs vs js = subst (λ (xs : List ℕ). Down o k xs vs js) (sym form.0) (down o k formed vs js orderly) in
       let played : read_play o bs (length vs) (length js) ≡ Ok tt = ap (λ n. read_play o bs n (length js)) lv ∙ ap (read_play o bs a.0.records) lj ∙ b.1 in

@@ -3,7 +3,6 @@ use Rattle.std.proofs.Common.{◌≡◌, ℕ, ◌+◌, ◌*◌, ◌<◌, ◌≤�
 use Rattle.std.specs.List.{AllByRecursion, flat_map}
 use Rattle.std.proofs.lemmas.List.{length-append}
 use Rattle.std.proofs.lemmas.Bool.{cond-true, eq-eqb}
-use Rattle.kinds.specs.ByteLaws.{bytes_nil}
 use Rattle.kinds.specs.Forms.{Alike}
 use Rattle.kinds.specs.Stamps.{Order, Ordered}
 use Rattle.kinds.specs.Values.{RecordKind, Written}
@@ -21,7 +20,7 @@ use Rattle.archive.specs.Blocks.{read_blocks}
 use Rattle.archive.specs.Play.{opening_table}
 use Rattle.archive.specs.Rule.{read_archive, read_play, inspected}
 use Rattle.archive.specs.Journal.{block_bytes, archive_bytes, stated_records, stated_opening, stated_journal, stated_jobs}
-use Rattle.archive.proofs.ForthBlocks.{block_long}
+use Rattle.archive.proofs.Long.{block_long}
 use Rattle.readback.specs.Sound.{Orderly, BorneOutAlike}
 use Rattle.readback.specs.ReadsBack.{Each, AlikeJob, SoundReadsBack}
 use Rattle.readback.proofs.BackRows.{values_back}
@@ -39,7 +38,7 @@ module _ {S R : Type 0} (o : Order S) (k : RecordKind R) (bs : List ℕ) (values
   blocks_short [] h = omega arith
   blocks_short (a ∷ js) h =
       let l = length-append (block_bytes o k.form a) (flat_map (block_bytes o k.form) js) in
-      let b = block_long o k.form laws.formed formed [] bytes_nil a in
+      let b = block_long o k.form laws.formed formed a in
       let x = few_looks o (length values) a h.0 in
       let y = few_puts o (length values) a h.0 in
       let i = blocks_short js h.1 in

@@ -2,7 +2,6 @@
 use Rattle.std.proofs.Common.{◌≡◌, ℕ, ◌+◌, ◌*◌, ◌<◌, ◌≤◌, true, cond, leb, List, [], ◌∷◌, length, get_or, Some, Ok, Err, sym, ap, ◌∙◌, subst, arith}
 use Rattle.std.proofs.lemmas.Bool.{and_from, not_from_false, cond-true, eq-eqb, le-leb}
 use Rattle.kinds.specs.Bytes.{number4, part}
-use Rattle.kinds.specs.ByteLaws.{bytes_nil}
 use Rattle.kinds.specs.Forms.{Form, Formed}
 use Rattle.kinds.specs.Stamps.{Order, Ordered, Same}
 use Rattle.kinds.specs.Bounds.{NotAfter}
@@ -16,7 +15,7 @@ use Rattle.archive.specs.Names.{numbers, names_right}
 use Rattle.archive.specs.Blocks.{stamp_at, front_right, with_stamp, read_front, names_of, read_block}
 use Rattle.archive.specs.Journal.{block_bytes, stated_looks, stated_puts, stated_job}
 use Rattle.archive.proofs.Fields.{reads4}
-use Rattle.archive.proofs.ForthBlocks.{block_long}
+use Rattle.archive.proofs.Long.{block_long}
 use Rattle.readback.specs.ReadsBack.{Each, AlikeLook, AlikePut, AlikeJob}
 use Rattle.readback.proofs.BackFields.{byte_at, ReadAs, reads_form}
 use Rattle.readback.proofs.BackRows.{LooksBack, PutsBack, looks_back, puts_back}
@@ -63,7 +62,7 @@ module _ {S R : Type 0} (o : Order S) (f : Form R) (bs : List ℕ) where
   module _ (laws : Ordered o) (formed : Formed 12 f) (n : ℕ) (some : n ≤ 65536) (at : ℕ) (low prev : S) (a : AcceptedJob S R)
       (same : Same o low prev) (after : NotAfter o prev a.stamp) (neat : NeatJob o n a) (small : a.ticket < 4294967296) (parts : BlockParts o f bs at a) where
     long : length_of a ≡ 16 + 22 * length a.looks + 14 * length a.puts
-    long = block_long o f laws.formed formed [] bytes_nil a
+    long = block_long o f laws.formed formed a
 
     size_at : (i k : ℕ) → i ≡ at + 12 + k → k < 4 → get_or bs i 0 ≡ get_or (length a.looks ∷ length a.puts ∷ 0 ∷ 0 ∷ []) k 0
     size_at i k e h = ap (λ m. get_or bs m 0) e ∙ byte_at bs (at + 12) k (length a.looks ∷ length a.puts ∷ 0 ∷ 0 ∷ []) parts.sizes h

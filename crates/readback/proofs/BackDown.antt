@@ -1,5 +1,5 @@
 -- Where heading, directory, values and blocks stand in the bytes that are laid down.
-use Rattle.std.proofs.Common.{◌≡◌, ℕ, ◌+◌, ◌*◌, true, ◌&&◌, leb, List, [], ◌∷◌, ◌++◌, length, drop, Ok, Err, refl, ap, ◌∙◌, mul-suc, arith}
+use Rattle.std.proofs.Common.{◌≡◌, ℕ, ◌+◌, ◌*◌, true, ◌&&◌, leb, List, ◌∷◌, ◌++◌, length, drop, Ok, Err, refl, ap, ◌∙◌, mul-suc, arith}
 use Rattle.std.specs.List.{flat_map}
 use Rattle.std.proofs.lemmas.List.{length-append, length-map, length-drop}
 use Rattle.std.proofs.lemmas.Bool.{and_from, cond-true, eq-eqb, le-leb}
@@ -14,17 +14,13 @@ use Rattle.archive.specs.Heading.{heading_bytes, mark_right, kinds_right, record
 use Rattle.archive.specs.Directory.{pairs_bytes}
 use Rattle.archive.specs.Values.{values_bytes}
 use Rattle.archive.specs.Journal.{block_bytes, block_lengths, archive_bytes, stated_records, stated_count}
-use Rattle.archive.proofs.Stands.{Stands, first, second, of_all}
+use Rattle.archive.proofs.Stands.{Stands, first, second, of_all, moved}
 use Rattle.archive.proofs.Forth.{values_length}
+use Rattle.archive.proofs.OneForm.{pairs_long}
 use Rattle.readback.specs.Sound.{Orderly}
-use Rattle.readback.proofs.BackFields.{moved}
 
 abbrev pub counts : ℕ → ℕ → Heading
 counts n j = record { records = n; jobs = j }
-
-pairs_long : (at : ℕ) (ns : List ℕ) → length (pairs_bytes at ns) ≡ 8 * length ns
-pairs_long at [] = refl
-pairs_long at (n ∷ ns) = let i = pairs_long (at + n) ns in let m = mul-suc 8 (length ns) in omega arith
 
 -- bytes in which some values and jobs are laid down
 module _ {S R : Type 0} (o : Order S) (k : RecordKind R) (bs : List ℕ) (values : List R) (jobs : List (AcceptedJob S R)) where

@@ -11,10 +11,6 @@ module _ (bs : List ℕ) where
   pub byte_at : (at k : ℕ) (xs : List ℕ) → Stands bs at xs → k < length xs → get_or bs (at + k) 0 ≡ get_or xs k 0
   byte_at at k xs p h = sym (get_or-drop at bs k 0) ∙ sym (get_or-take (length xs) (drop at bs) k 0 h) ∙ ap (λ ys. get_or ys k 0) p
 
-  -- the same place by another name
-  pub moved : (xs : List ℕ) {m n : ℕ} → m ≡ n → Stands bs m xs → Stands bs n xs
-  moved xs e p = subst (λ (i : ℕ). Stands bs i xs) e p
-
   pub within : (at : ℕ) (xs : List ℕ) → 0 < length xs → Stands bs at xs → at + length xs ≤ length bs
   within at xs h p = let e = ap length p in let a = length-take (length xs) (drop at bs) in let d = length-drop at bs in omega arith
 

@@ -6,9 +6,8 @@ use Rattle.kinds.specs.Forms.{Form, Formed}
 use Rattle.kinds.specs.Stamps.{Order}
 use Rattle.law.specs.Daybook.{AcceptedJob}
 use Rattle.archive.specs.Journal.{look_bytes, put_bytes, block_bytes}
-use Rattle.archive.proofs.Stands.{Stands, first, second}
-use Rattle.readback.proofs.BackFields.{moved}
-use Rattle.readback.proofs.BackRows.{looks_long}
+use Rattle.archive.proofs.Stands.{Stands, first, second, moved}
+use Rattle.archive.proofs.Long.{looks_long}
 
 module _ {S R : Type 0} (o : Order S) (f : Form R) (bs : List ℕ) where
   -- the parts of a block, each at its place
@@ -33,7 +32,7 @@ module _ {S R : Type 0} (o : Order S) (f : Form R) (bs : List ℕ) where
         ticket = first bs (at + 8) (be4 a.ticket) (sizes ++ (ls ++ ps)) s1;
         sizes = first bs (at + 12) sizes (ls ++ ps) s2;
         looks = first bs (at + 16) ls ps s3;
-        puts = moved bs ps (ap (λ m. at + 16 + m) (looks_long o f bs laws formed a.looks)) (second bs (at + 16) ls ps s3);
+        puts = moved bs ps (ap (λ m. at + 16 + m) (looks_long o f laws formed a.looks)) (second bs (at + 16) ls ps s3);
       }
     where
       plus : (a b c : ℕ) → a + b + c ≡ a + (b + c)

@@ -1,8 +1,7 @@
 -- Values, looks and puts that stand in a row are read back, each at its place.
-use Rattle.std.proofs.Common.{◌≡◌, ℕ, ◌+◌, ◌*◌, ◌<◌, ◌≤◌, true, ◌&&◌, List, [], ◌∷◌, ◌++◌, length, is_some, Some, Ok, sym, refl, ap, ◌∙◌, subst, mul-suc, arith}
+use Rattle.std.proofs.Common.{◌≡◌, ℕ, ◌+◌, ◌<◌, ◌≤◌, true, ◌&&◌, List, [], ◌∷◌, ◌++◌, length, is_some, Some, Ok, sym, refl, ap, ◌∙◌, subst, arith}
 use Rattle.std.specs.Option.{ok_or}
 use Rattle.std.specs.List.{AllByRecursion, flat_map}
-use Rattle.std.proofs.lemmas.List.{length-append}
 use Rattle.kinds.specs.Bytes.{be2, number2, part}
 use Rattle.kinds.specs.Forms.{Form, Formed, Alike}
 use Rattle.kinds.specs.Stamps.{Order}
@@ -14,10 +13,11 @@ use Rattle.archive.specs.Values.{values_bytes, read_values, value_first, stated_
 use Rattle.archive.specs.Names.{numbers}
 use Rattle.archive.specs.Blocks.{stamp_at, all_noted}
 use Rattle.archive.specs.Journal.{look_bytes, put_bytes, seen_look, stated_looks, seen_put, stated_puts}
-use Rattle.archive.proofs.Stands.{Stands, first, second}
+use Rattle.archive.proofs.Long.{look_long, put_long}
+use Rattle.archive.proofs.Stands.{Stands, first, second, moved}
 use Rattle.archive.proofs.Fields.{reads2}
 use Rattle.readback.specs.ReadsBack.{Each, AlikeLook, AlikePut}
-use Rattle.readback.proofs.BackFields.{moved, ReadAs, reads_form}
+use Rattle.readback.proofs.BackFields.{ReadAs, reads_form}
 
 -- opening values
 module _ {R : Type 0} (f : Form R) (bs : List ℕ) where
@@ -94,16 +94,6 @@ module _ {S R : Type 0} (o : Order S) (f : Form R) (bs : List ℕ) where
       swap at = omega arith
 
   module _ (laws : Formed 8 o.form) (formed : Formed 12 f) where
-    pub look_long : (l : Look S R) → length (look_bytes o f l) ≡ 22
-    look_long l = let w = formed.wide l.saw.value in let x = laws.wide l.saw.stamp in let a = length-append (o.form.written l.saw.stamp) (f.written l.saw.value) in omega arith
-
-    pub put_long : (p : Put R) → length (put_bytes o f p) ≡ 14
-    put_long p = let w = formed.wide p.value in omega arith
-
-    pub looks_long : (ls : List (Look S R)) → length (flat_map (look_bytes o f) ls) ≡ 22 * length ls
-    looks_long [] = refl
-    looks_long (l ∷ ls) = let a = length-append (look_bytes o f l) (flat_map (look_bytes o f) ls) in let b = look_long l in let c = looks_long ls in let m = mul-suc 22 (length ls) in omega arith
-
     -- the value of a look, and its stamp, stand behind its number
     pub look_parts : (at : ℕ) (l : Look S R) → Stands bs at (look_bytes o f l) → Stands bs (at + 2) (o.form.written l.saw.stamp ++ f.written l.saw.value)
     look_parts at l p = second bs at (be2 l.number) (o.form.written l.saw.stamp ++ f.written l.saw.value) p
@@ -125,7 +115,7 @@ module _ {S R : Type 0} (o : Order S) (f : Form R) (bs : List ℕ) where
     looks_back n b [] at h p = record { noted = refl; values = refl; named = refl; stated = tt }
     looks_back n b (l ∷ ls) at h p =
         let here = first bs at (look_bytes o f l) (flat_map (look_bytes o f) ls) p in
-        let rest = moved bs (flat_map (look_bytes o f) ls) (ap (λ m. at + m) (look_long l)) (second bs at (look_bytes o f l) (flat_map (look_bytes o f) ls) p) in
+        let rest = moved bs (flat_map (look_bytes o f) ls) (ap (λ m. at + m) (look_long o f laws formed l)) (second bs at (look_bytes o f l) (flat_map (look_bytes o f) ls) p) in
         let t = h.0 in
         look_more at l ls (look_back at l (omega arith) here) (looks_back n b ls (at + 22) h.1 rest)
 
@@ -140,6 +130,6 @@ module _ {S R : Type 0} (o : Order S) (f : Form R) (bs : List ℕ) where
     puts_back n b [] at h q = record { values = refl; named = refl; stated = tt }
     puts_back n b (p ∷ ps) at h q =
         let here = first bs at (put_bytes o f p) (flat_map (put_bytes o f) ps) q in
-        let rest = moved bs (flat_map (put_bytes o f) ps) (ap (λ m. at + m) (put_long p)) (second bs at (put_bytes o f p) (flat_map (put_bytes o f) ps) q) in
+        let rest = moved bs (flat_map (put_bytes o f) ps) (ap (λ m. at + m) (put_long o f laws formed p)) (second bs at (put_bytes o f p) (flat_map (put_bytes o f) ps) q) in
         let t = h.0 in
         put_more at p ps (put_back at p (omega arith) here) (puts_back n b ps (at + 14) h.1 rest)

@@ -17,8 +17,7 @@ use Rattle.archive.specs.Laying.{laid_over}
 use Rattle.archive.specs.Values.{values_bytes}
 use Rattle.archive.specs.Play.{opening_table}
 use Rattle.archive.proofs.Laid.{laid_long}
-use Rattle.archive.proofs.Stands.{Stands, first, second}
-use Rattle.readback.proofs.BackFields.{moved}
+use Rattle.archive.proofs.Stands.{Stands, first, second, moved}
 
 -- the parts of bytes over which others are laid
 module _ (at : ℕ) (xs d : List ℕ) (h : at + length xs ≤ length d) where

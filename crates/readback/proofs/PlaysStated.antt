@@ -1,28 +1,27 @@
 -- The values that play leaves are those of the play of the first jobs that the archive states.
-use Rattle.std.proofs.Common.{◌≡◌, ℕ, zero, suc, ◌+◌, ◌-◌, ◌*◌, ◌≤◌, Bool, true, false, cond, ◌&&◌, eqb, leb, List, length, get_or, take, drop, Some, None, Ok, Option, Result, sym, refl, ap, ◌∙◌, subst, arith}
-use Rattle.std.specs.Option.{option_map, ok_or}
+use Rattle.std.proofs.Common.{◌≡◌, ℕ, zero, suc, ◌+◌, ◌-◌, ◌*◌, ◌≤◌, Bool, true, false, cond, ◌&&◌, eqb, leb, List, length, get_or, take, drop, Some, None, Ok, Option, sym, refl, ap, ◌∙◌, subst, arith}
+use Rattle.std.specs.Option.{option_map}
 use Rattle.std.specs.List.{slice_get}
 use Rattle.std.proofs.lemmas.Bool.{and_from, and_parts, eq-eqb, le-leb, leb-true}
-use Rattle.kinds.specs.Bytes.{part}
 use Rattle.kinds.specs.Forms.{Form}
 use Rattle.kinds.specs.Stamps.{Order}
 use Rattle.kinds.specs.Values.{RecordKind}
 use Rattle.model.specs.Rows.{Stood}
 use Rattle.law.specs.Daybook.{AcceptedJob}
 use Rattle.law.specs.Account.{StandingAt, put_of, at_opening, after_job, played}
-use Rattle.archive.specs.declared.fault.Fault.{Fault}
-use Rattle.archive.specs.declared.fault.Fault.TheVariants.{HeadingWrong, PairWrong, ValueWrong}
+use Rattle.archive.specs.declared.fault.Fault.TheVariants.{HeadingWrong, PairWrong}
 use Rattle.archive.specs.declared.heading.Heading.{Heading}
 use Rattle.archive.specs.declared.blocks.Opened.{Opened}
 use Rattle.archive.specs.Faults.{onward}
 use Rattle.archive.specs.Lengths.{block_length}
 use Rattle.archive.specs.Heading.{mark_right, kinds_right, sizes_right, read_sizes, read_heading}
 use Rattle.archive.specs.Directory.{stated_length, pair_right, read_pair, read_directory}
-use Rattle.archive.specs.Values.{read_values, value_first, stated_values}
+use Rattle.archive.specs.Values.{read_values, stated_values}
 use Rattle.archive.specs.Blocks.{read_block, read_blocks}
 use Rattle.archive.specs.Rule.{read_archive}
 use Rattle.archive.specs.Played.{values_after, block_played, blocks_played, room_right, play_leaves}
 use Rattle.archive.specs.Journal.{stated_puts, stated_job, seen_job, stated_jobs, stated_records, stated_count, stated_opening, stated_journal}
+use Rattle.archive.proofs.Long.{values_long}
 use Rattle.archive.proofs.Fields.{guarded, bound, ok_same}
 use Rattle.readback.specs.PlaysBack.{value_at, PlaysWhatIsStated}
 use Rattle.readback.proofs.PutsOver.{over, value_under, puts_over, after_length}
@@ -40,16 +39,6 @@ opening_shows {S} {R} o vs x = by (slice_get vs x)
     by (Some v) = refl
 
 module _ {S R : Type 0} (o : Order S) (f : Form R) (bs : List ℕ) where
-  -- so many values that were read are so many values
-  length_step : (at n : ℕ) (p : Option R) (vs : List R) (rest : Result (Unit {0}) Fault) → onward (ok_or p (ValueWrong at)) (λ _. rest) ≡ Ok tt
-      → (rest ≡ Ok tt → length vs ≡ n) → length (value_first p vs) ≡ suc n
-  length_step at n (Some v) vs rest q ih = ap suc (ih q)
-  length_step at n None vs rest q ih = let z : ◌≡◌ {A = ℕ} 0 1 = cc in absurd (omega arith)
-
-  pub values_length : (n at : ℕ) → read_values f bs at 12 n ≡ Ok tt → length (stated_values f bs at 12 n) ≡ n
-  values_length zero at q = refl
-  values_length (suc n) at q = length_step at n (f.read (part bs at 12)) (stated_values f bs (at + 12) 12 n) (read_values f bs (at + 12) 12 n) q (values_length n (at + 12))
-
   -- a block
   block_length_kept : (at : ℕ) (vs : List R) → length (block_played f bs at vs) ≡ length vs
   block_length_kept at vs = by (leb (at + block_length (get_or bs (at + 12) 0) (get_or bs (at + 13) 0)) (length bs))
@@ -145,7 +134,7 @@ module _ {S R : Type 0} (o : Order S) (k : RecordKind R) (bs : List ℕ) where
       ap (λ r. slice_get (play_leaves k.form bs r space m) x) (q ∙ ap Ok (sym z.heading))
       ∙ ap (λ t. slice_get (cond t (blocks_played k.form bs 20 (20 + 8 * j + 12 * n) (stated_values k.form bs (20 + 8 * j) 12 n) m) space) x) room
       ∙ plays o k.form bs j 20 (20 + 8 * j + 12 * n) n z.end o.least z.blocks m (subst (λ (y : Heading). m ≤ y.jobs) (sym z.heading) c)
-      (stated_opening o k bs) (values_length o k.form bs n (20 + 8 * j) z.values) (at_opening o (stated_opening o k bs)) (opening_shows o (stated_opening o k bs)) x
+      (stated_opening o k bs) (values_long k.form bs n (20 + 8 * j) z.values) (at_opening o (stated_opening o k bs)) (opening_shows o (stated_opening o k bs)) x
 
 pub plays_stated : {S R : Type 0} (o : Order S) (k : RecordKind R) → PlaysWhatIsStated o k
 plays_stated o k bs h space m t q l c x = plays_at o k bs h space m q l c x

@@ -21,7 +21,8 @@ use Rattle.readback.specs.ReadsBack.{AlikeJob, ReadsBack, RunReadsBack}
 use Rattle.readback.specs.PlaysBack.{value_at, RunPlaysBack}
 use Rattle.readback.proofs.Back.{sound_reads_back}
 use Rattle.readback.proofs.RunsSound.{runs_sound, run_ends, run_opening}
-use Rattle.readback.proofs.PlaysStated.{values_length, archive_says, plays_at}
+use Rattle.archive.proofs.Long.{values_long}
+use Rattle.readback.proofs.PlaysStated.{archive_says, plays_at}
 use Rattle.readback.proofs.AlikePlays.{each_length, opening_alike, plays_alike}
 
 -- a row's value in its written form
@@ -47,7 +48,7 @@ module _ {S R : Type 0} (k : Kind S) (r : RecordKind R) (g : Registry S R) where
       let b = bound (read_play k.order laid_down a.0.records a.0.jobs) (λ _. Ok a.0.jobs) m a.2 in
       let jobs : a.0.jobs ≡ m = ok_same _ _ b.2 in
       let says = archive_says k.order r laid_down a.0 a.1 in
-      let lv : length vs ≡ stated_records laid_down = values_length k.order r.form laid_down (stated_records laid_down) (20 + 8 * stated_count laid_down) says.values in
+      let lv : length vs ≡ stated_records laid_down = values_long r.form laid_down (stated_records laid_down) (20 + 8 * stated_count laid_down) says.values in
       let lo : length vs ≡ length g.opening = each_length (Alike r.form) vs g.opening back.opening in
       let lj : length js ≡ m = each_length (AlikeJob k.order r.form) js (journal_of g) back.journal in
       let n : stated_records laid_down ≡ a.0.records = ap (λ (h : Heading). h.records) says.heading in

@@ -21,7 +21,7 @@ use Rattle.archive.proofs.Fields.{guarded, bound, ok_same}
 use Rattle.archive.proofs.KnownBlocks.{block_met}
 use Rattle.reader.specs.Readable.{Readable}
 use Rattle.reader.specs.Rebuilt.{with_puts, with_job}
-use Rattle.reader.proofs.Lengths.{values_long}
+use Rattle.archive.proofs.Long.{values_long}
 
 -- the pair of a part: where it starts, and that it ends within the archive
 pub record PairMet (bs : List ℕ) (at from end : ℕ) : Type 0 where

@@ -1,4 +1,3 @@
-mod Lengths
 mod Lists
 mod Journal
 mod Rebuilding
