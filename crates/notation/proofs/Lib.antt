@@ -1,2 +1,3 @@
 pub mod CutPlaces
+pub mod DigitLaws
 pub mod HexLaws

@@ -4,12 +4,13 @@ use Rattle.schedule_calls.specs.declared.command.Archived.{Archived}
 use Rattle.schedule_calls.specs.declared.command.Archived.TheVariants.{Bytes, Inspected, Played}
 use Rattle.schedule_calls.specs.declared.command.Call.{Call}
 use Rattle.schedule_calls.specs.declared.command.Call.TheVariants.{Publish, Open, Look, Put, Tune, Submit, Decide, Settle, Waive}
+use Rattle.schedule_calls.specs.Numbers.{numeral}
 
 abbrev pub call_text : {R : Type 0} → Call R → List ℕ
 call_text Publish = codes "publish"
 call_text (Open name image) = codes "open " ++ string_bytes name
-call_text (Look name record' at) = codes "look " ++ (string_bytes name ++ 32 ∷ string_bytes record'.digits)
-call_text (Put name record' value at) = codes "put " ++ (string_bytes name ++ 32 ∷ string_bytes record'.digits)
+call_text (Look name record' at) = codes "look " ++ (string_bytes name ++ 32 ∷ (numeral record').digits)
+call_text (Put name record' value at) = codes "put " ++ (string_bytes name ++ 32 ∷ (numeral record').digits)
 call_text (Tune name image) = codes "tune " ++ string_bytes name
 call_text (Submit name) = codes "submit " ++ string_bytes name
 call_text Decide = codes "decide"
@@ -20,4 +21,4 @@ call_text (Waive name) = codes "waive " ++ string_bytes name
 abbrev pub archived_text : Archived → List ℕ
 archived_text Bytes = codes "archive"
 archived_text Inspected = codes "inspect"
-archived_text (Played jobs) = codes "play " ++ string_bytes jobs.digits
+archived_text (Played jobs) = codes "play " ++ (numeral jobs).digits

@@ -1,9 +1,10 @@
 -- Numbers of any size, as a schedule writes them.
-use Rattle.std.specs.Prelude.{ℕ, Bool, cond, not, ◌&&◌, ◌==◌, List, [], ◌∷◌, length, unwrap_or, Result, Ok, Err, string_bytes}
+use Rattle.std.specs.Prelude.{ℕ, Bool, cond, not, ◌&&◌, ◌==◌, List, [], ◌∷◌, length, unwrap_or, Result, Ok, Err, string_bytes, decimal}
 use Rattle.std.specs.Char.{is_ascii_digit}
 use Rattle.std.specs.List.{list_all}
 use Rattle.notation.specs.Numbers.{number_of}
 use Rattle.schedule_calls.specs.declared.numbers.Number.{Number}
+use Rattle.schedule_calls.specs.declared.numbers.Number.TheVariants.{Index, Larger}
 use Rattle.schedule_calls.specs.declared.reason.Reason.{Reason}
 use Rattle.schedule_calls.specs.declared.reason.Reason.TheVariants.{Number as NoNumber}
 
@@ -30,7 +31,8 @@ pub record Numeral : Type 0 where
   pub value : ℕ
 
 abbrev pub numeral : Number → Numeral
-numeral n = record { digits = string_bytes n.digits; value = n.value }
+numeral (Index n) = record { digits = decimal n; value = n }
+numeral (Larger digits) = record { digits = string_bytes digits; value = 18446744073709551615 }
 
 -- the number with these digits, or the reason why there is none
 abbrev pub with_digits : List ℕ → Result ℕ Reason → Result Numeral Reason

@@ -1,5 +1,5 @@
 // Numbers of any size.
-ghost use Rattle.std.specs.Prelude.{◌≡◌, ◌≤◌, IfOk, Some, string_bytes};
+ghost use Rattle.std.specs.Prelude.{◌≡◌, ◌≤◌, IfOk, Some};
 ghost use Rattle.std.specs.Char.{is_ascii_digit};
 ghost use Rattle.std.specs.List.{list_all};
 ghost use Rattle.schedule_calls.specs.Numbers.{is_number, capped_at, index_of, without_zeros, numeral, numeral_of};
@@ -10,18 +10,34 @@ use notation::numbers::number;
 use std::alloc::Global;
 use std::fmt;
 
-// A number as a schedule writes it: its digits without leading zeros, and the number that is handed on.
+// A number as a schedule writes it: one that the library can take, or a larger one by its digits without leading zeros.
 #[derive(Drop)]
-pub struct Number {
-    pub digits: String,
-    pub value: usize,
+pub enum Number {
+    Index(usize),
+    Larger(String),
 }
 
+impl Number {
+    // The number that is handed on: the largest in place of a larger one.
+    pub fn value(&self) -> usize
+        ensures { result ≡ (numeral self.now).value }
+    {
+        match self {
+            Number::Index(index) => *index,
+            Number::Larger(_) => usize::MAX,
+        }
+    }
+}
+
+// A number by its digits without leading zeros.
 impl fmt::Display for Number {
-    ghost output = { λ x. Some (string_bytes x.digits) };
+    ghost output = { λ x. Some (numeral x).digits };
 
     fn fmt<W: fmt::Write>(&self, f: &mut fmt::Formatter<W>) -> fmt::Result {
-        f.write_str(&self.digits)
+        match self {
+            Number::Index(index) => write!(f, "{index}"),
+            Number::Larger(digits) => f.write_str(digits),
+        }
     }
 }
 
@@ -68,16 +84,19 @@ fn without_zeros(word: &[u8]) -> &[u8]
     }
 }
 
-// A number with its digits.
+// A number with its digits. Only a larger one keeps them: those of an index are read off its value. The cast loses
+// nothing, as above.
 pub fn parse_number(heap: Global, word: &[u8]) -> Result<Number, Fault>
     ensures { Reads numeral (numeral_of word.now) result }
 {
-    let value = parse_index(word)?;
+    if let Some(index) = number(word, u64::MAX) {
+        return Ok(Number::Index(index as usize));
+    }
+    if !is_number(word) {
+        return Err(Reason::Number.into());
+    }
     let Ok(digits) = std::str::from_utf8(without_zeros(word)) else {
         return Err(Reason::Number.into());
     };
-    Ok(Number {
-        digits: String::from_str(heap, digits)?,
-        value,
-    })
+    Ok(Number::Larger(String::from_str(heap, digits)?))
 }

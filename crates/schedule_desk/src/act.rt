@@ -174,13 +174,13 @@ impl<S: Stamp, R: Copy> Desk<S, R> {
         match call {
             Call::Publish => self.publish(),
             Call::Open { name, image } => self.open(name, *image),
-            Call::Look { name, record, at } => self.look(name, record.value, *at),
+            Call::Look { name, record, at } => self.look(name, record.value(), *at),
             Call::Put {
                 name,
                 record,
                 value,
                 at,
-            } => self.put(name, record.value, *value, *at),
+            } => self.put(name, record.value(), *value, *at),
             Call::Tune { name, image } => self.tune(name, *image),
             Call::Submit { name } => self.submit(name),
             Call::Decide => self.decide(),

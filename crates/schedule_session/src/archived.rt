@@ -155,7 +155,7 @@ fn answer<S: Stamp, R: Record>(
     Ok(match command {
         Archived::Bytes => Answered::Bytes(archive),
         Archived::Inspected => Answered::Inspection(inspect::<S, R>(&archive)),
-        Archived::Played { jobs } => Answered::Values(values_after(desk, &archive, jobs.value)?),
+        Archived::Played { jobs } => Answered::Values(values_after(desk, &archive, jobs.value())?),
     })
 }
 

@@ -1,9 +1,13 @@
--- The digits of a number are text.
-use Rattle.std.proofs.Common.{sym, subst}
+-- The digits of a number are text, and those of an index are its decimal form.
+use Rattle.std.proofs.Common.{sym, subst, ◌∙◌}
 use Rattle.std.specs.Str.{IsUtf8}
-use Rattle.schedule_calls.proofs.Digits.{numeral_text}
+use Rattle.schedule_calls.proofs.Digits.{numeral_text, index_digits}
 use Rattle.schedule_calls.proofs.numbers.parse_number.Goals as goal
 
-pub returns-in_default : goal.returns-in_default
-returns-in_default c =
-    absurd (c.in_default.ensures.cases.0 (subst IsUtf8 (sym c.without_zeros.ensures) (numeral_text c.args.word.now c.in_ok-value.value (sym c.in_ok-value.ensures))))
+pub returns-in-Some : goal.returns-in-Some
+returns-in-Some c =
+    index_digits c.args.word.now c.in-Some.index (sym c.number.ensures.value ∙ c.in-Some.is)
+
+pub returns-in_default-from_utf8 : goal.returns-in_default-from_utf8
+returns-in_default-from_utf8 c =
+    absurd (c.in_default-from_utf8.ensures.cases.0 (subst IsUtf8 (sym c.without_zeros.ensures) (numeral_text c.args.word.now (sym c.is_number.ensures ∙ c.if-not-is_number.false))))
