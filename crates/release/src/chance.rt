@@ -1,5 +1,5 @@
 // Numbers drawn by chance.
-ghost use Rattle.std.specs.Prelude.{◌<◌, max};
+ghost use Rattle.std.specs.Prelude.{◌≡◌, ◌<◌, ◌≤◌, max, true};
 
 // A generator of numbers: the same state goes on to the same numbers.
 #[derive(Clone, Copy)]
@@ -24,8 +24,10 @@ impl Chance {
         (self.next() % bound) as usize
     }
 
-    // Whether what happens once in so many times happens now.
-    pub fn one_in(&mut self, times: usize) -> bool {
+    // Whether what happens once in so many times happens now. What happens every time does.
+    pub fn one_in(&mut self, times: usize) -> bool
+        ensures { times ≤ 1 → result ≡ true }
+    {
         self.below(times) == 0
     }
 }

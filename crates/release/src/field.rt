@@ -1,4 +1,6 @@
 // A register with its stations, as a release run drives it.
+ghost use Rattle.std.specs.Prelude.{◌≡◌, length, IfOk};
+
 use crate::chance::Chance;
 use crate::failure::Failure;
 use crate::options::Options;
@@ -37,8 +39,12 @@ pub struct Field<S: Copy, R: Copy> {
 }
 
 impl<S: Stamp, R: Drawn> Field<S, R> {
-    // Tables and stations for the schedules of a run.
-    pub fn new(heap: Global, options: &Options) -> Result<Field<S, R>, Failure> {
+    // Tables and stations for the schedules of a run: as many opening values, and as many places for the play, as the
+    // register has records.
+    pub fn new(heap: Global, options: &Options) -> Result<Field<S, R>, Failure>
+        ensures opening { IfOk result (λ f. length f.opening.items ≡ options.now.records) }
+        ensures played { IfOk result (λ f. length f.played.items ≡ options.now.records) }
+    {
         let mut chance = Chance {
             state: options.seed,
         };

@@ -1,4 +1,7 @@
 // What a release run is asked for.
+ghost use Rattle.std.specs.Prelude.{IfOk, OnOk};
+ghost use Rattle.release.specs.Asked.{Within, Lawful};
+
 use thiserror::Error;
 
 // The stamp kinds and the record kinds that a run can take.
@@ -55,7 +58,9 @@ pub enum Misread {
 }
 
 impl Default for Options {
-    fn default() -> Options {
+    fn default() -> Options
+        ensures { Lawful result }
+    {
         Options {
             stations: 20,
             schedules: 2000,
@@ -68,14 +73,18 @@ impl Default for Options {
 }
 
 // A number from 1 to a largest.
-fn number(text: &str, most: usize) -> Option<usize> {
+fn number(text: &str, most: usize) -> Option<usize>
+    ensures { Within most result }
+{
     let number: usize = text.parse().ok()?;
     (1..=most).contains(&number).then_some(number)
 }
 
 impl Options {
     // Takes a word for what has this name.
-    fn set(&mut self, name: &str, text: &str) -> Result<(), Misread> {
+    fn set(&mut self, name: &str, text: &str) -> Result<(), Misread>
+        ensures { Lawful self.old → OnOk result (Lawful self.new) }
+    {
         match name.as_bytes() {
             b"stations" => self.stations = number(text, 1000).ok_or(Misread::Stations)?,
             b"schedules" => self.schedules = text.parse().map_err(|_| Misread::Schedules)?,
@@ -100,8 +109,11 @@ impl Options {
         Ok(())
     }
 
-    // Reads words, as `stations=40`, or in the order of the names. What no word names is as it is by default.
-    pub fn read(words: &[String]) -> Result<Options, Misread> {
+    // Reads words, as `stations=40`, or in the order of the names. What no word names is as it is by default. Stations
+    // and records are as many as a run can have.
+    pub fn read(words: &[String]) -> Result<Options, Misread>
+        ensures { IfOk result Lawful }
+    {
         let mut options = Options::default();
         let mut names = NAMES.iter();
         for word in words {

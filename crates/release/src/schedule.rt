@@ -1,4 +1,7 @@
 // A schedule by chance, from founding to handing over.
+ghost use Rattle.std.specs.Prelude.{OnOk, take};
+ghost use Rattle.release.specs.Journals.{CountedLast};
+
 use crate::calls::Act;
 use crate::failure::Failure;
 use crate::field::Field;
@@ -103,7 +106,9 @@ impl<S: Stamp, R: Drawn> Field<S, R> {
 
     // The next schedule: a register is founded, the stations and the registrar take their turns, every ticket is
     // settled or waived, and the archive is checked against the register.
-    pub fn schedule(&mut self) -> Result<(), Failure> {
+    pub fn schedule(&mut self) -> Result<(), Failure>
+        ensures { OnOk result (CountedLast S.Stamp.kind.order (take self.new.registrar.jobs self.new.store.heads.items) self.new.tally) }
+    {
         self.found()?;
         let mut tickets = Vec::new(self.heap);
         let ran = self.turns(&mut tickets);
