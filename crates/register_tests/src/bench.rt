@@ -26,18 +26,6 @@ pub enum Call {
     Publish,
 }
 
-// Every call, those of a record at the first one.
-pub const CALLS: [Call; 8] = [
-    Call::Found,
-    Call::Open,
-    Call::Look(0),
-    Call::Put(0),
-    Call::Tune,
-    Call::Submit,
-    Call::Decide,
-    Call::Publish,
-];
-
 #[derive(Drop)]
 pub struct Bench<S: Copy, R: Copy> {
     pub values: Values<R>,
@@ -47,6 +35,8 @@ pub struct Bench<S: Copy, R: Copy> {
     pub published: Published<S, R>,
     pub job: Job<S>,
     pub sheet: Vec<Entry<S, R>>,
+    // Which step of a test is taken, for the message of a failure.
+    pub step: usize,
 }
 
 // An entry for a record, neither seen nor put.
@@ -85,19 +75,24 @@ fn same_job<S: Content>(a: &Job<S>, b: &Job<S>) -> bool {
         && a.count == b.count
 }
 
-fn copy_of_store<S: Copy, R: Copy>(
-    heap: Global,
-    store: &Store<S, R>,
-) -> Result<Store<S, R>, AllocError> {
+fn copy_of_store<S: Copy, R: Copy>(store: &Store<S, R>) -> Result<Store<S, R>, AllocError> {
     Ok(Store {
-        rows: store.rows.to_vec(heap)?,
-        firsts: store.firsts.to_vec(heap)?,
-        opening: store.opening.to_vec(heap)?,
-        queue: store.queue.to_vec(heap)?,
-        queued: store.queued.to_vec(heap)?,
-        outcomes: store.outcomes.to_vec(heap)?,
-        heads: store.heads.to_vec(heap)?,
-        lines: store.lines.to_vec(heap)?,
+        rows: store.rows.clone()?,
+        firsts: store.firsts.clone()?,
+        opening: store.opening.clone()?,
+        queue: store.queue.clone()?,
+        queued: store.queued.clone()?,
+        outcomes: store.outcomes.clone()?,
+        heads: store.heads.clone()?,
+        lines: store.lines.clone()?,
+    })
+}
+
+fn copy_of_image<S: Copy, R: Copy>(image: &Published<S, R>) -> Result<Published<S, R>, AllocError> {
+    Ok(Published {
+        head: image.head,
+        rows: image.rows.clone()?,
+        outcomes: image.outcomes.clone()?,
     })
 }
 
@@ -149,6 +144,7 @@ impl<S: Stamp, R: Copy> Bench<S, R> {
                 count: 0,
             },
             sheet: places(heap, blank(values.new), 16)?,
+            step: 0,
         })
     }
 
@@ -156,11 +152,16 @@ impl<S: Stamp, R: Copy> Bench<S, R> {
     // write, so that it shows where a refused call clears them.
     pub fn founded(heap: Global, values: Values<R>, journal: usize) -> Result<Bench<S, R>, Fail> {
         let mut bench = Bench::new(heap, values, 2, journal)?;
-        bench.call(Call::Found)?;
-        bench.call(Call::Publish)?;
-        bench.call(Call::Open)?;
-        bench.store.firsts = places(heap, Some(S::least()), 2)?;
+        bench.begin(heap)?;
         Ok(bench)
+    }
+
+    fn begin(&mut self, heap: Global) -> Result<(), Fail> {
+        for call in [Call::Found, Call::Publish, Call::Open] {
+            self.call(call)?;
+        }
+        self.store.firsts = places(heap, Some(S::least()), 2)?;
+        Ok(())
     }
 
     // A registrar founded on the tables.
@@ -221,29 +222,26 @@ impl<S: Stamp, R: Copy> Bench<S, R> {
         match call {
             Call::Found => self.found(),
             Call::Open => self.open(),
-            Call::Look(number) => self.look(number).map(|_| ()),
+            Call::Look(number) => self.look(number).and(Ok(())),
             Call::Put(number) => self.put(number),
-            Call::Tune => self.tune().map(|_| ()),
+            Call::Tune => self.tune().and(Ok(())),
             Call::Submit => self.submit().map(Ticket::waive),
-            Call::Decide => self.decide().map(|_| ()),
-            Call::Publish => self.publish().map(|_| ()),
+            Call::Decide => self.decide().and(Ok(())),
+            Call::Publish => self.publish().and(Ok(())),
         }
     }
 
     // Everything on the bench once more.
-    fn copy(&self, heap: Global) -> Result<Bench<S, R>, AllocError> {
+    fn copy(&self) -> Result<Bench<S, R>, AllocError> {
         Ok(Bench {
             values: self.values,
-            opening: self.opening.to_vec(heap)?,
+            opening: self.opening.clone()?,
             registrar: self.registrar,
-            store: copy_of_store(heap, &self.store)?,
-            published: Published {
-                head: self.published.head,
-                rows: self.published.rows.to_vec(heap)?,
-                outcomes: self.published.outcomes.to_vec(heap)?,
-            },
+            store: copy_of_store(&self.store)?,
+            published: copy_of_image(&self.published)?,
             job: copy_of(&self.job),
-            sheet: self.sheet.to_vec(heap)?,
+            sheet: self.sheet.clone()?,
+            step: self.step,
         })
     }
 }
@@ -262,20 +260,41 @@ impl<S: Content, R: Content> Bench<S, R> {
 
 impl<S: Stamp + Content, R: Content> Bench<S, R> {
     // A call is answered so; where it is refused, it alters nothing on the bench.
-    pub fn gives(
-        &mut self,
-        heap: Global,
+    pub fn gives(&mut self, call: Call, wanted: Result<(), Refusal>) -> Result<(), Fail> {
+        let before = self.copy()?;
+        let answer = self.call(call);
+        self.agrees(&before, call, answer, wanted)
+    }
+
+    fn agrees(
+        &self,
+        before: &Bench<S, R>,
         call: Call,
+        answer: Result<(), Refusal>,
         wanted: Result<(), Refusal>,
     ) -> Result<(), Fail> {
-        let before = self.copy(heap)?;
-        let answer = self.call(call);
         if answer != wanted {
-            return Err(Fail::new(format_args!("{call:?} gives {answer:?}, and not {wanted:?}")));
+            Err(self.unwanted(call, answer, wanted))
+        } else if answer.is_err() && !self.is(before) {
+            Err(self.altered(call))
+        } else {
+            Ok(())
         }
-        if answer.is_err() && !self.is(&before) {
-            return Err(Fail::new(format_args!("{call:?}, refused, alters something")));
-        }
-        Ok(())
+    }
+
+    fn unwanted(
+        &self,
+        call: Call,
+        answer: Result<(), Refusal>,
+        wanted: Result<(), Refusal>,
+    ) -> Fail {
+        Fail::new(format_args!(
+            "step {}: {call:?} gives {answer:?}, and not {wanted:?}",
+            self.step
+        ))
+    }
+
+    fn altered(&self, call: Call) -> Fail {
+        Fail::new(format_args!("step {}: {call:?}, refused, alters something", self.step))
     }
 }

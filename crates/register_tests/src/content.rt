@@ -6,6 +6,7 @@ use kinds::whole::Whole;
 use model::entry::Entry;
 use model::image::ImageRow;
 use model::row::Row;
+use model::tables::at;
 use model::verdict::{Outcome, Verdict};
 use registrar::journal::Head;
 use registrar::queue::Submission;
@@ -17,7 +18,12 @@ pub trait Content: Copy {
 
 // Whether two tables have the same places with the same contents.
 pub fn same_table<T: Content>(a: &[T], b: &[T]) -> bool {
-    a.len() == b.len() && a.iter().zip(b).all(|(x, y)| x.is(*y))
+    for (place, content) in a.iter().enumerate() {
+        if !at(b, place).is(Some(*content)) {
+            return false;
+        }
+    }
+    a.len() == b.len()
 }
 
 impl Content for Whole {

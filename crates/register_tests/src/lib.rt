@@ -20,6 +20,10 @@ mod settling;
 #[cfg(test)]
 mod sizes;
 #[cfg(test)]
+mod states;
+#[cfg(test)]
 mod station_bounds;
+#[cfg(test)]
+mod steps;
 #[cfg(test)]
 mod versions;

@@ -1,126 +1,103 @@
 // The refusals at the registrar, each at its bound and one step inside.
-use crate::bench::{Bench, Call, holds};
-use crate::content::Content;
-use crate::kinds_used::{CARDS, ITEMS, Values};
-use kinds::stamp::Stamp;
-use kinds::volume::VolumePage;
-use kinds::whole::Whole;
+use crate::bench::Call::{Decide, Open, Publish, Submit};
+use crate::states::State;
+use crate::steps::Start::Founded;
+use crate::steps::Step::{Answered, Holds, Refused, Set, Tells, Times};
+use crate::steps::{Told, play};
 use model::refusal::Refusal;
-use std::alloc::Global;
 use std::test::Fail;
 
 // Sixteen submissions wait at most; once one is decided, one more may wait. When all are decided, none waits.
-fn queue_of<S: Stamp + Content, R: Content>(heap: Global, values: Values<R>) -> Result<(), Fail> {
-    let mut bench: Bench<S, R> = Bench::founded(heap, values, 32)?;
-    bench.gives(heap, Call::Decide, Err(Refusal::NoneWaiting))?;
-    for _ in 0..16 {
-        bench.gives(heap, Call::Submit, Ok(()))?;
-    }
-    bench.gives(heap, Call::Submit, Err(Refusal::QueueFull))?;
-    bench.gives(heap, Call::Decide, Ok(()))?;
-    bench.gives(heap, Call::Submit, Ok(()))?;
-    bench.gives(heap, Call::Submit, Err(Refusal::QueueFull))?;
-    for _ in 0..16 {
-        bench.gives(heap, Call::Decide, Ok(()))?;
-    }
-    bench.gives(heap, Call::Decide, Err(Refusal::NoneWaiting))
-}
-
 #[test]
 fn queues(rt: HostRuntime) -> Result<(), Fail> {
-    queue_of::<Whole, _>(rt.alloc(), CARDS)?;
-    queue_of::<VolumePage, _>(rt.alloc(), ITEMS)
+    play(
+        rt.alloc(),
+        Founded(32),
+        &[
+            Refused(Decide, Refusal::NoneWaiting),
+            Times(16, Submit),
+            Refused(Submit, Refusal::QueueFull),
+            Answered(Decide),
+            Answered(Submit),
+            Refused(Submit, Refusal::QueueFull),
+            Times(16, Decide),
+            Refused(Decide, Refusal::NoneWaiting),
+        ],
+    )
 }
 
-// A job without room between its bounds is submitted: no place is the verdict, and no entry in the journal.
-fn submit_without_room<S: Stamp + Content, R: Content>(
-    bench: &mut Bench<S, R>,
-    heap: Global,
-) -> Result<(), Fail> {
-    bench.job.upper = Some(S::least());
-    bench.gives(heap, Call::Submit, Ok(()))?;
-    bench.job.upper = None;
-    Ok(())
-}
-
-// A journal of two places takes two accepted jobs. Then no verdict is given, whatever it would be.
-fn journal_of<S: Stamp + Content, R: Content>(heap: Global, values: Values<R>) -> Result<(), Fail> {
-    let mut bench: Bench<S, R> = Bench::founded(heap, values, 2)?;
-    bench.gives(heap, Call::Submit, Ok(()))?;
-    submit_without_room(&mut bench, heap)?;
-    bench.gives(heap, Call::Submit, Ok(()))?;
-    submit_without_room(&mut bench, heap)?;
-    for jobs in [1, 1, 2] {
-        bench.gives(heap, Call::Decide, Ok(()))?;
-        holds(
-            bench.registrar.jobs == jobs,
-            "the journal has another number of jobs",
-        )?;
-    }
-    bench.gives(heap, Call::Decide, Err(Refusal::JournalFull))?;
-    bench.gives(heap, Call::Publish, Ok(()))?;
-    bench.gives(heap, Call::Decide, Err(Refusal::JournalFull))
-}
-
+// A journal of two places takes two accepted jobs; of a job without room between its bounds no place is the
+// verdict, and no entry in the journal. Then no verdict is given, whatever it would be.
 #[test]
 fn journals(rt: HostRuntime) -> Result<(), Fail> {
-    journal_of::<Whole, _>(rt.alloc(), CARDS)?;
-    journal_of::<VolumePage, _>(rt.alloc(), ITEMS)
+    play(
+        rt.alloc(),
+        Founded(2),
+        &[
+            Answered(Submit),
+            Set(State::NoRoom),
+            Answered(Submit),
+            Set(State::Room),
+            Answered(Submit),
+            Set(State::NoRoom),
+            Answered(Submit),
+            Answered(Decide),
+            Holds(State::Jobs(1)),
+            Answered(Decide),
+            Holds(State::Jobs(1)),
+            Answered(Decide),
+            Holds(State::Jobs(2)),
+            Refused(Decide, Refusal::JournalFull),
+            Answered(Publish),
+            Refused(Decide, Refusal::JournalFull),
+        ],
+    )
 }
 
-// There are 32 outcomes from one image to the next. Then no verdict is given, whatever it would be.
-fn outcomes_of<S: Stamp + Content, R: Content>(
-    heap: Global,
-    values: Values<R>,
-) -> Result<(), Fail> {
-    let mut bench: Bench<S, R> = Bench::founded(heap, values, 32)?;
-    for _ in 0..16 {
-        bench.gives(heap, Call::Submit, Ok(()))?;
-        bench.gives(heap, Call::Decide, Ok(()))?;
-        submit_without_room(&mut bench, heap)?;
-        bench.gives(heap, Call::Decide, Ok(()))?;
-    }
-    submit_without_room(&mut bench, heap)?;
-    bench.gives(heap, Call::Decide, Err(Refusal::OutcomesFull))?;
-    bench.gives(heap, Call::Publish, Ok(()))?;
-    holds(
-        bench.published.head.count == 32,
-        "the image has another number of outcomes",
-    )?;
-    bench.gives(heap, Call::Decide, Ok(()))
-}
-
+// There are 32 outcomes from one image to the next, here of jobs with room and without it in turn. Then no
+// verdict is given, whatever it would be.
 #[test]
 fn outcomes(rt: HostRuntime) -> Result<(), Fail> {
-    outcomes_of::<Whole, _>(rt.alloc(), CARDS)?;
-    outcomes_of::<VolumePage, _>(rt.alloc(), ITEMS)
+    let mut steps = Vec::new(rt.alloc());
+    for _ in 0..16 {
+        steps.extend_from_slice(&[
+            Set(State::Room),
+            Answered(Submit),
+            Answered(Decide),
+            Set(State::NoRoom),
+            Answered(Submit),
+            Answered(Decide),
+        ])?;
+    }
+    steps.extend_from_slice(&[
+        Answered(Submit),
+        Refused(Decide, Refusal::OutcomesFull),
+        Answered(Publish),
+        Holds(State::ImageOutcomes(32)),
+        Answered(Decide),
+    ])?;
+    play(rt.alloc(), Founded(32), &steps)
 }
 
 const LAST_NUMBER: u32 = 4_294_967_295;
 
 // The last ticket is given, and the last image is published; the next ones are refused.
-fn last_numbers_of<S: Stamp + Content, R: Content>(
-    heap: Global,
-    values: Values<R>,
-) -> Result<(), Fail> {
-    let mut bench: Bench<S, R> = Bench::founded(heap, values, 1)?;
-    bench.registrar.tickets = LAST_NUMBER - 2;
-    bench.registrar.cycle = LAST_NUMBER - 2;
-    for number in [LAST_NUMBER - 1, LAST_NUMBER] {
-        let ticket = bench.submit()?;
-        let given = ticket.number();
-        ticket.waive();
-        holds(given == number, "the ticket has another number")?;
-        holds(bench.publish()? == number, "the image has another number")?;
-    }
-    bench.gives(heap, Call::Submit, Err(Refusal::CountEnded))?;
-    bench.gives(heap, Call::Publish, Err(Refusal::CountEnded))?;
-    bench.gives(heap, Call::Decide, Ok(()))?;
-    bench.gives(heap, Call::Open, Ok(()))
-}
-
 #[test]
 fn last_numbers(rt: HostRuntime) -> Result<(), Fail> {
-    last_numbers_of::<Whole, _>(rt.alloc(), CARDS)?;
-    last_numbers_of::<VolumePage, _>(rt.alloc(), ITEMS)
+    play(
+        rt.alloc(),
+        Founded(1),
+        &[
+            Set(State::Tickets(LAST_NUMBER - 2)),
+            Set(State::Cycle(LAST_NUMBER - 2)),
+            Tells(Told::Submits(LAST_NUMBER - 1)),
+            Tells(Told::Publishes(LAST_NUMBER - 1)),
+            Tells(Told::Submits(LAST_NUMBER)),
+            Tells(Told::Publishes(LAST_NUMBER)),
+            Refused(Submit, Refusal::CountEnded),
+            Refused(Publish, Refusal::CountEnded),
+            Answered(Decide),
+            Answered(Open),
+        ],
+    )
 }

@@ -1,81 +1,58 @@
 // The refusals at a station, each at its bound and one step inside.
-use crate::bench::{Bench, Call, entry_for, holds};
+use crate::bench::Call::{Decide, Found, Look, Open, Publish, Put, Submit, Tune};
+use crate::bench::{Bench, Call, holds};
 use crate::content::Content;
 use crate::kinds_used::{CARDS, ITEMS, Values};
+use crate::states::Listed::Untouched;
+use crate::states::State;
+use crate::steps::Start::{Founded, Tables};
+use crate::steps::Step::{Answered, BothRefused, Gives, Set};
+use crate::steps::play;
 use kinds::stamp::Stamp;
 use kinds::volume::VolumePage;
 use kinds::whole::{LAST, Whole};
 use model::image::ImageRow;
 use model::refusal::Refusal;
 use model::tables::store;
-use registrar::queue::Submission;
 use std::alloc::Global;
 use std::test::Fail;
 
 const LAST_IMAGE: u32 = 4_294_967_295;
 
-// An image of a number, and a job at another: what open, look and put, and tune answer.
-fn image_number<S: Stamp + Content, R: Content>(
-    heap: Global,
-    values: Values<R>,
-    (job, image): (u32, u32),
-    [open, look, tune]: [Result<(), Refusal>; 3],
-) -> Result<(), Fail> {
-    for (call, wanted) in [
-        (Call::Open, open),
-        (Call::Look(0), look),
-        (Call::Put(0), look),
-        (Call::Tune, tune),
-    ] {
-        let mut bench: Bench<S, R> = Bench::founded(heap, values, 2)?;
-        bench.job.image = job;
-        bench.published.head.number = image;
-        bench.gives(heap, call, wanted)?;
-    }
-    Ok(())
-}
-
-// Open asks for an image after number 0, look and put for the job's, tune for the next one.
+// A job at an image, an image of another number, and what open, look and put, and tune answer: open asks for an
+// image after number 0, look and put for the job's, tune for the next one.
 #[test]
 fn image_numbers(rt: HostRuntime) -> Result<(), Fail> {
-    let heap = rt.alloc();
     let other = Err(Refusal::OtherImage);
     let not_next = Err(Refusal::NotNextImage);
-    for (numbers, answers) in [
-        ((5, 0), [other, other, not_next]),
-        ((5, 1), [Ok(()), other, not_next]),
-        ((5, 4), [Ok(()), other, not_next]),
-        ((5, 5), [Ok(()), Ok(()), not_next]),
-        ((5, 6), [Ok(()), other, Ok(())]),
-        ((5, 7), [Ok(()), other, not_next]),
-        ((LAST_IMAGE - 1, LAST_IMAGE), [Ok(()), other, Ok(())]),
-        ((LAST_IMAGE, LAST_IMAGE), [Ok(()), Ok(()), not_next]),
-        ((LAST_IMAGE, 0), [other, other, not_next]),
-        ((LAST_IMAGE, 1), [Ok(()), other, not_next]),
+    for (job, image, open, look, tune) in [
+        (5, 0, other, other, not_next),
+        (5, 1, Ok(()), other, not_next),
+        (5, 4, Ok(()), other, not_next),
+        (5, 5, Ok(()), Ok(()), not_next),
+        (5, 6, Ok(()), other, Ok(())),
+        (5, 7, Ok(()), other, not_next),
+        (LAST_IMAGE - 1, LAST_IMAGE, Ok(()), other, Ok(())),
+        (LAST_IMAGE, LAST_IMAGE, Ok(()), Ok(()), not_next),
+        (LAST_IMAGE, 0, other, other, not_next),
+        (LAST_IMAGE, 1, Ok(()), other, not_next),
     ] {
-        image_number::<Whole, _>(heap, CARDS, numbers, answers)?;
-        image_number::<VolumePage, _>(heap, ITEMS, numbers, answers)?;
+        for answer in [
+            Gives(Open, open),
+            Gives(Look(0), look),
+            Gives(Put(0), look),
+            Gives(Tune, tune),
+        ] {
+            let numbers = [Set(State::JobImage(job)), Set(State::Image(image)), answer];
+            play(rt.alloc(), Founded(2), &numbers)?;
+        }
     }
     Ok(())
 }
 
 // A look and a put of a record, each by a new job at a register of two.
-fn record_number<S: Stamp + Content, R: Content>(
-    heap: Global,
-    values: Values<R>,
-    number: usize,
-    wanted: Result<(), Refusal>,
-) -> Result<(), Fail> {
-    for call in [Call::Look(number), Call::Put(number)] {
-        let mut bench: Bench<S, R> = Bench::founded(heap, values, 2)?;
-        bench.gives(heap, call, wanted)?;
-    }
-    Ok(())
-}
-
 #[test]
 fn record_numbers(rt: HostRuntime) -> Result<(), Fail> {
-    let heap = rt.alloc();
     let no_record = Err(Refusal::NoSuchRecord);
     for (number, wanted) in [
         (0, Ok(())),
@@ -84,90 +61,79 @@ fn record_numbers(rt: HostRuntime) -> Result<(), Fail> {
         (3, no_record),
         (usize::MAX, no_record),
     ] {
-        record_number::<Whole, _>(heap, CARDS, number, wanted)?;
-        record_number::<VolumePage, _>(heap, ITEMS, number, wanted)?;
+        play(rt.alloc(), Founded(2), &[Gives(Look(number), wanted)])?;
+        play(rt.alloc(), Founded(2), &[Gives(Put(number), wanted)])?;
     }
     Ok(())
 }
 
 // A sheet, and the oldest submission, of so many entries, one of which, at a place, is for a record of a
-// register of two.
-fn listed_number<S: Stamp + Content, R: Content>(
-    heap: Global,
-    values: Values<R>,
-    (count, place, number): (usize, usize, usize),
-    wanted: Result<(), Refusal>,
-) -> Result<(), Fail> {
-    let mut bench: Bench<S, R> = Bench::founded(heap, values, 2)?;
-    store(&mut bench.sheet, place, entry_for(values.old, number));
-    bench.job.count = count;
-    bench.gives(heap, Call::Submit, wanted)?;
-    bench.gives(heap, Call::Publish, Ok(()))?;
-    bench.gives(heap, Call::Tune, wanted)?;
-    let submission = Submission {
-        ticket: 1,
-        lower: S::least(),
-        upper: None,
-        count,
-    };
-    store(&mut bench.store.queue, 0, submission);
-    store(
-        &mut bench.store.queued,
-        place,
-        entry_for(values.old, number),
-    );
-    bench.registrar.waiting = 1;
-    bench.gives(heap, Call::Decide, wanted)
-}
-
-// Only the entries that count are asked for their records; a count above 16 counts as 16.
+// register of two. Only the entries that count are asked for their records; a count above 16 counts as 16.
 #[test]
 fn listed_numbers(rt: HostRuntime) -> Result<(), Fail> {
-    let heap = rt.alloc();
     let no_record = Err(Refusal::NoSuchRecord);
-    for (listed, wanted) in [
-        ((1, 0, 1), Ok(())),
-        ((1, 0, 2), no_record),
-        ((0, 0, 2), Ok(())),
-        ((16, 15, 1), Ok(())),
-        ((16, 15, 2), no_record),
-        ((15, 15, 2), Ok(())),
-        ((17, 15, 2), no_record),
-        ((usize::MAX, 15, usize::MAX), no_record),
+    for (count, place, number, wanted) in [
+        (1, 0, 1, Ok(())),
+        (1, 0, 2, no_record),
+        (0, 0, 2, Ok(())),
+        (16, 15, 1, Ok(())),
+        (16, 15, 2, no_record),
+        (15, 15, 2, Ok(())),
+        (17, 15, 2, no_record),
+        (usize::MAX, 15, usize::MAX, no_record),
     ] {
-        listed_number::<Whole, _>(heap, CARDS, listed, wanted)?;
-        listed_number::<VolumePage, _>(heap, ITEMS, listed, wanted)?;
+        play(
+            rt.alloc(),
+            Founded(2),
+            &[
+                Set(State::Sheet(place, Untouched(number))),
+                Set(State::Entries(count)),
+                Gives(Submit, wanted),
+                Answered(Publish),
+                Gives(Tune, wanted),
+                Set(State::Submission(0, 1, count)),
+                Set(State::Queued(place, Untouched(number))),
+                Set(State::Waiting(1)),
+                Gives(Decide, wanted),
+            ],
+        )?;
     }
     Ok(())
 }
 
 // Sixteen records of seventeen are looked at or put; the last one has no place, while the sixteenth may be
 // looked at and put again.
-fn seventeen<S: Stamp + Content, R: Content>(heap: Global, values: Values<R>) -> Result<(), Fail> {
-    let mut bench: Bench<S, R> = Bench::new(heap, values, 17, 1)?;
-    for call in [Call::Found, Call::Publish, Call::Open] {
-        bench.gives(heap, call, Ok(()))?;
-    }
-    for number in 0..8 {
-        bench.gives(heap, Call::Look(number), Ok(()))?;
-        bench.gives(heap, Call::Put(number + 8), Ok(()))?;
-    }
-    for (call, wanted) in [
-        (Call::Look(16), Err(Refusal::SheetFull)),
-        (Call::Put(16), Err(Refusal::SheetFull)),
-        (Call::Look(15), Ok(())),
-        (Call::Put(15), Ok(())),
-        (Call::Put(7), Ok(())),
-    ] {
-        bench.gives(heap, call, wanted)?;
-    }
-    Ok(())
-}
-
 #[test]
 fn full_sheets(rt: HostRuntime) -> Result<(), Fail> {
-    seventeen::<Whole, _>(rt.alloc(), CARDS)?;
-    seventeen::<VolumePage, _>(rt.alloc(), ITEMS)
+    play(
+        rt.alloc(),
+        Tables(17, 1),
+        &[
+            Answered(Found),
+            Answered(Publish),
+            Answered(Open),
+            Answered(Look(0)),
+            Answered(Put(8)),
+            Answered(Look(1)),
+            Answered(Put(9)),
+            Answered(Look(2)),
+            Answered(Put(10)),
+            Answered(Look(3)),
+            Answered(Put(11)),
+            Answered(Look(4)),
+            Answered(Put(12)),
+            Answered(Look(5)),
+            Answered(Put(13)),
+            Answered(Look(6)),
+            Answered(Put(14)),
+            Answered(Look(7)),
+            Answered(Put(15)),
+            BothRefused(16, Refusal::SheetFull),
+            Answered(Look(15)),
+            Answered(Put(15)),
+            Answered(Put(7)),
+        ],
+    )
 }
 
 // Between which bounds a job stands, and the write and read stamps of the record that it looks at or puts.
@@ -179,6 +145,32 @@ struct Bounds<S> {
     read: S,
 }
 
+// The job between its bounds, and the record with its stamps in the image.
+fn set_bounds<S: Stamp, R: Copy>(bench: &mut Bench<S, R>, bounds: Bounds<S>) {
+    bench.job.lower = bounds.lower;
+    bench.job.upper = bounds.upper;
+    let row = ImageRow {
+        value: bench.values.old,
+        write: bounds.write,
+        read: bounds.read,
+        first: None,
+    };
+    store(&mut bench.published.rows, 0, row);
+}
+
+// A call makes this the lower bound, or is refused where there is no room.
+fn moves<S: Stamp + Content, R: Content>(
+    bench: &mut Bench<S, R>,
+    call: Call,
+    lower: Option<S>,
+) -> Result<(), Fail> {
+    let Some(lower) = lower else {
+        return bench.gives(call, Err(Refusal::NoRoom));
+    };
+    bench.gives(call, Ok(()))?;
+    holds(bench.job.lower.is(lower), "the lower bound is another")
+}
+
 // What a look or a put makes the lower bound, or none where there is no room.
 fn makes<S: Stamp + Content, R: Content>(
     heap: Global,
@@ -188,20 +180,8 @@ fn makes<S: Stamp + Content, R: Content>(
     lower: Option<S>,
 ) -> Result<(), Fail> {
     let mut bench: Bench<S, R> = Bench::founded(heap, values, 1)?;
-    bench.job.lower = bounds.lower;
-    bench.job.upper = bounds.upper;
-    let row = ImageRow {
-        value: values.old,
-        write: bounds.write,
-        read: bounds.read,
-        first: None,
-    };
-    store(&mut bench.published.rows, 0, row);
-    let Some(lower) = lower else {
-        return bench.gives(heap, call, Err(Refusal::NoRoom));
-    };
-    bench.gives(heap, call, Ok(()))?;
-    holds(bench.job.lower.is(lower), "the lower bound is another")
+    set_bounds(&mut bench, bounds);
+    moves(&mut bench, call, lower)
 }
 
 // Lower and upper bound of the job, write and read stamp of the row; then the lower bound after a look, and
