@@ -1,16 +1,12 @@
 // Faults of blocks and of values in them, each at its first and its last place.
-use crate::tables::{ONE_JOB, THREE_JOBS, numbered, widest, with};
-use archive::inspect::inspect;
-use kinds::card::Card;
-use kinds::item::Item;
-use kinds::volume::VolumePage;
-use kinds::whole::Whole;
+use crate::answers::{one_job, paged_items, three_jobs, widest_job};
+use crate::tables::{THREE_JOBS, with};
 use std::test::Fail;
 
 // A stamp that is no form, the least stamp, a stamp that falls, ticket 0, numbers of looks and of puts that are not
 // those of the length, and a zero byte that is not zero.
 #[test]
-fn fronts(rt: HostRuntime) {
+fn fronts() -> Result<(), Fail> {
     for (at, byte, place) in [
         (82, 40, 80),
         (205, 16, 198),
@@ -29,25 +25,16 @@ fn fronts(rt: HostRuntime) {
         (95, 1, 80),
         (213, 255, 198),
     ] {
-        let bytes = with(THREE_JOBS, &[(at, byte)]);
-        assert_eq!(rt;
-            numbered(inspect::<VolumePage, Item>(&bytes)),
-            Err((16, Some(place))),
-            "{byte} at {at}"
-        );
+        three_jobs(&[(at, byte)], Err((16, Some(place))))?;
     }
+    Ok(())
 }
 
 // A whole stamp above 2^62 - 1, and the last one.
 #[test]
-fn whole_stamps(rt: HostRuntime) {
-    let over = with(ONE_JOB, &[(52, 0x40)]);
-    assert_eq!(rt;
-        numbered(inspect::<Whole, Card>(&over)),
-        Err((16, Some(52)))
-    );
-    let last = with(
-        ONE_JOB,
+fn whole_stamps() -> Result<(), Fail> {
+    one_job(&[(52, 0x40)], Err((16, Some(52))))?;
+    one_job(
         &[
             (52, 0x3f),
             (53, 255),
@@ -58,48 +45,35 @@ fn whole_stamps(rt: HostRuntime) {
             (58, 255),
             (59, 255),
         ],
-    );
-    assert_eq!(rt; inspect::<Whole, Card>(&last), Ok(1));
+        Ok(1),
+    )?;
+    Ok(())
 }
 
 // A stamp of the last block that is before the one before it, though it is after the least.
 #[test]
-fn last_stamp_falls(rt: HostRuntime) {
-    let bytes = with(THREE_JOBS, &[(200, 0), (201, 0)]);
-    assert_eq!(rt;
-        numbered(inspect::<VolumePage, Item>(&bytes)),
-        Err((16, Some(198)))
-    );
+fn last_stamp_falls() -> Result<(), Fail> {
+    three_jobs(&[(200, 0), (201, 0)], Err((16, Some(198))))
 }
 
 // Lengths that the table lacks, one more and one less than a length of it; and too few bytes for the front.
 #[test]
 fn lengths(rt: HostRuntime) -> Result<(), Fail> {
-    let first = with(THREE_JOBS, &[(27, 75), (31, 155), (35, 43)]);
-    assert_eq!(rt;
-        numbered(inspect::<VolumePage, Item>(&first)),
-        Err((16, Some(80)))
-    );
+    three_jobs(&[(27, 75), (31, 155), (35, 43)], Err((16, Some(80))))?;
     let mut last = with(THREE_JOBS, &[(43, 39)]).to_vec(rt.alloc())?;
     last.push(0)?;
-    assert_eq!(rt;
-        numbered(inspect::<VolumePage, Item>(&last)),
-        Err((16, Some(198)))
-    );
+    paged_items(&last, Err((16, Some(198))))?;
     for short in 0..16u8 {
         let bytes = with(THREE_JOBS, &[(43, short)]);
         let bytes = &bytes[..198 + usize::from(short)];
-        assert_eq!(rt;
-            numbered(inspect::<VolumePage, Item>(bytes)),
-            Err((16, Some(198)))
-        );
+        paged_items(bytes, Err((16, Some(198))))?;
     }
     Ok(())
 }
 
 // A noted stamp that is no form, a record number that is not below N, and a record twice among looks or puts.
 #[test]
-fn names(rt: HostRuntime) {
+fn names() -> Result<(), Fail> {
     for (at, byte, place) in [
         (100, 40, 80),
         (222, 40, 198),
@@ -111,19 +85,15 @@ fn names(rt: HostRuntime) {
         (119, 0, 80),
         (185, 0, 154),
     ] {
-        let bytes = with(THREE_JOBS, &[(at, byte)]);
-        assert_eq!(rt;
-            numbered(inspect::<VolumePage, Item>(&bytes)),
-            Err((16, Some(place))),
-            "{byte} at {at}"
-        );
+        three_jobs(&[(at, byte)], Err((16, Some(place))))?;
     }
+    Ok(())
 }
 
 // Of 16 looks and 16 puts: a record twice among the first two or the last two, a number that is not below N, and 17
 // records in all.
 #[test]
-fn most_names(rt: HostRuntime) {
+fn most_names() -> Result<(), Fail> {
     for (at, byte) in [
         (271, 0),
         (579, 14),
@@ -136,20 +106,14 @@ fn most_names(rt: HostRuntime) {
         (601, 16),
         (811, 16),
     ] {
-        let bytes = with(widest(), &[(at, byte)]);
-        assert_eq!(rt;
-            numbered(inspect::<Whole, Card>(&bytes)),
-            Err((16, Some(232))),
-            "{byte} at {at}"
-        );
+        widest_job(&[(at, byte)], Err((16, Some(232))))?;
     }
-    let other = with(widest(), &[(579, 16), (811, 16)]);
-    assert_eq!(rt; inspect::<Whole, Card>(&other), Ok(1));
+    widest_job(&[(579, 16), (811, 16)], Ok(1))
 }
 
 // Values that are no form: the first look's and the last, the first put's and the last.
 #[test]
-fn values(rt: HostRuntime) {
+fn values() -> Result<(), Fail> {
     for (at, byte, place) in [
         (106, 3, 106),
         (117, 1, 106),
@@ -160,26 +124,17 @@ fn values(rt: HostRuntime) {
         (224, 3, 224),
         (235, 1, 224),
     ] {
-        let bytes = with(THREE_JOBS, &[(at, byte)]);
-        assert_eq!(rt;
-            numbered(inspect::<VolumePage, Item>(&bytes)),
-            Err((17, Some(place))),
-            "{byte} at {at}"
-        );
+        three_jobs(&[(at, byte)], Err((17, Some(place))))?;
     }
     for (at, byte, place) in [(262, 4, 258), (592, 4, 588), (606, 4, 602), (819, 1, 812)] {
-        let bytes = with(widest(), &[(at, byte)]);
-        assert_eq!(rt;
-            numbered(inspect::<Whole, Card>(&bytes)),
-            Err((17, Some(place))),
-            "{byte} at {at}"
-        );
+        widest_job(&[(at, byte)], Err((17, Some(place))))?;
     }
+    Ok(())
 }
 
 // A look that shows another value or another stamp than stands at its record: the first and the last.
 #[test]
-fn looks(rt: HostRuntime) {
+fn looks() -> Result<(), Fail> {
     for (at, byte, place) in [
         (106, 1, 96),
         (105, 1, 96),
@@ -188,21 +143,8 @@ fn looks(rt: HostRuntime) {
         (223, 1, 214),
         (149, 6, 214),
     ] {
-        let bytes = with(THREE_JOBS, &[(at, byte)]);
-        assert_eq!(rt;
-            numbered(inspect::<VolumePage, Item>(&bytes)),
-            Err((19, Some(place))),
-            "{byte} at {at}"
-        );
+        three_jobs(&[(at, byte)], Err((19, Some(place))))?;
     }
-    let last = with(widest(), &[(591, 1)]);
-    assert_eq!(rt;
-        numbered(inspect::<Whole, Card>(&last)),
-        Err((19, Some(578)))
-    );
-    let entered_under_other = with(THREE_JOBS, &[(83, 0), (87, 1)]);
-    assert_eq!(rt;
-        numbered(inspect::<VolumePage, Item>(&entered_under_other)),
-        Err((19, Some(214)))
-    );
+    widest_job(&[(591, 1)], Err((19, Some(578))))?;
+    three_jobs(&[(83, 0), (87, 1)], Err((19, Some(214))))
 }

@@ -1,10 +1,6 @@
 // Archives that are cut off, and archives with bytes left over.
-use crate::tables::{NO_JOB, ONE_JOB, THREE_JOBS, numbered};
-use archive::inspect::inspect;
-use kinds::card::Card;
-use kinds::item::Item;
-use kinds::volume::VolumePage;
-use kinds::whole::Whole;
+use crate::answers::{paged_items, whole_cards};
+use crate::tables::{NO_JOB, ONE_JOB, THREE_JOBS};
 use std::test::Fail;
 
 // The fault of each cut. A cut heading is 14. Behind it the first pair whose part is cut is 15: that of the opening
@@ -18,23 +14,18 @@ fn cut(length: usize, ends: &[usize]) -> (u8, Option<usize>) {
 }
 
 #[test]
-fn cuts(rt: HostRuntime) {
+fn cuts() -> Result<(), Fail> {
     for length in 0..32 {
-        let answer = numbered(inspect::<Whole, Card>(&NO_JOB[..length]));
-        assert_eq!(rt; answer, Err(cut(length, &[32])), "{length} bytes");
+        whole_cards(&NO_JOB[..length], Err(cut(length, &[32])))?;
     }
     for length in 0..104 {
-        let answer = numbered(inspect::<Whole, Card>(&ONE_JOB[..length]));
-        assert_eq!(rt; answer, Err(cut(length, &[52, 104])), "{length} bytes");
+        whole_cards(&ONE_JOB[..length], Err(cut(length, &[52, 104])))?;
     }
     for length in 0..236 {
-        let answer = numbered(inspect::<VolumePage, Item>(&THREE_JOBS[..length]));
-        assert_eq!(rt;
-            answer,
-            Err(cut(length, &[80, 154, 198, 236])),
-            "{length} bytes"
-        );
+        let ends = [80, 154, 198, 236];
+        paged_items(&THREE_JOBS[..length], Err(cut(length, &ends)))?;
     }
+    Ok(())
 }
 
 // Bytes left over count against the last pair.
@@ -43,16 +34,10 @@ fn left_over(rt: HostRuntime) -> Result<(), Fail> {
     for more in [1, 12, 100] {
         let mut bytes = NO_JOB.to_vec(rt.alloc())?;
         bytes.resize(32 + more, 0)?;
-        assert_eq!(rt;
-            numbered(inspect::<Whole, Card>(&bytes)),
-            Err((15, Some(12)))
-        );
+        whole_cards(&bytes, Err((15, Some(12))))?;
         let mut bytes = THREE_JOBS.to_vec(rt.alloc())?;
         bytes.resize(236 + more, 0)?;
-        assert_eq!(rt;
-            numbered(inspect::<VolumePage, Item>(&bytes)),
-            Err((15, Some(36)))
-        );
+        paged_items(&bytes, Err((15, Some(36))))?;
     }
     Ok(())
 }

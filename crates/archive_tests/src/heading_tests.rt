@@ -1,5 +1,6 @@
 // Faults of the heading, the directory and the opening values, each at its first and its last place.
-use crate::tables::{NO_JOB, ONE_JOB, THREE_JOBS, numbered, widest, with};
+use crate::answers::{is, no_job, numbered, one_job, three_jobs, whole_cards, widest_job};
+use crate::tables::{NO_JOB, with};
 use archive::inspect::inspect;
 use kinds::card::Card;
 use kinds::item::Item;
@@ -8,16 +9,16 @@ use kinds::whole::Whole;
 use std::test::Fail;
 
 #[test]
-fn sound(rt: HostRuntime) {
-    assert_eq!(rt; inspect::<Whole, Card>(&NO_JOB), Ok(0));
-    assert_eq!(rt; inspect::<Whole, Card>(&ONE_JOB), Ok(1));
-    assert_eq!(rt; inspect::<VolumePage, Item>(&THREE_JOBS), Ok(3));
-    assert_eq!(rt; inspect::<Whole, Card>(&widest()), Ok(1));
+fn sound() -> Result<(), Fail> {
+    no_job(&[], Ok(0))?;
+    one_job(&[], Ok(1))?;
+    three_jobs(&[], Ok(3))?;
+    widest_job(&[], Ok(1))
 }
 
 // The mark, the kinds, no record, 1,025 records and 4,097 jobs; with 4,096 jobs the first pair is wrong.
 #[test]
-fn headings(rt: HostRuntime) {
+fn headings() -> Result<(), Fail> {
     for (at, byte, number, place) in [
         (0, 0x40, 14, 0),
         (3, 0x32, 14, 0),
@@ -30,23 +31,14 @@ fn headings(rt: HostRuntime) {
         (10, 16, 15, 12),
         (10, 17, 14, 0),
     ] {
-        let bytes = with(NO_JOB, &[(at, byte)]);
-        assert_eq!(rt;
-            numbered(inspect::<Whole, Card>(&bytes)),
-            Err((number, Some(place))),
-            "{byte} at {at}"
-        );
+        no_job(&[(at, byte)], Err((number, Some(place))))?;
     }
-    let bytes = with(ONE_JOB, &[(10, 16)]);
-    assert_eq!(rt;
-        numbered(inspect::<Whole, Card>(&bytes)),
-        Err((14, Some(0)))
-    );
+    one_job(&[(10, 16)], Err((14, Some(0))))
 }
 
 // An archive that each kind reads, and no other kind than its own.
 #[test]
-fn kinds(rt: HostRuntime) {
+fn kinds() -> Result<(), Fail> {
     for (stamps, values) in [(1, 1), (1, 2), (2, 1), (2, 2)] {
         let bytes = with(NO_JOB, &[(4, stamps), (5, values)]);
         for (answer, own) in [
@@ -60,15 +52,16 @@ fn kinds(rt: HostRuntime) {
             } else {
                 Err((14, Some(0)))
             };
-            assert_eq!(rt; numbered(answer), expected);
+            is(numbered(answer), expected, &[(4, stamps), (5, values)])?;
         }
     }
+    Ok(())
 }
 
 // A pair that starts elsewhere, a first pair that is not as long as the opening values, a pair that runs past the
 // last byte, one that leaves a gap, and a last one that leaves bytes over.
 #[test]
-fn pairs(rt: HostRuntime) {
+fn pairs() -> Result<(), Fail> {
     for (at, byte, place) in [
         (15, 43, 12),
         (15, 45, 12),
@@ -88,18 +81,14 @@ fn pairs(rt: HostRuntime) {
         (43, 39, 36),
         (40, 255, 36),
     ] {
-        let bytes = with(THREE_JOBS, &[(at, byte)]);
-        assert_eq!(rt;
-            numbered(inspect::<VolumePage, Item>(&bytes)),
-            Err((15, Some(place))),
-            "{byte} at {at}"
-        );
+        three_jobs(&[(at, byte)], Err((15, Some(place))))?;
     }
+    Ok(())
 }
 
 // The first and the last of the opening values: a tag of none, and a zero byte that is not zero.
 #[test]
-fn opening_values(rt: HostRuntime) {
+fn opening_values() -> Result<(), Fail> {
     for (at, byte, place) in [
         (44, 3, 44),
         (55, 1, 44),
@@ -108,13 +97,9 @@ fn opening_values(rt: HostRuntime) {
         (75, 0, 68),
         (79, 1, 68),
     ] {
-        let bytes = with(THREE_JOBS, &[(at, byte)]);
-        assert_eq!(rt;
-            numbered(inspect::<VolumePage, Item>(&bytes)),
-            Err((17, Some(place))),
-            "{byte} at {at}"
-        );
+        three_jobs(&[(at, byte)], Err((17, Some(place))))?;
     }
+    Ok(())
 }
 
 // 1,024 records, and one more.
@@ -127,7 +112,7 @@ fn most_records(rt: HostRuntime) -> Result<(), Fail> {
         let head = with(NO_JOB, &[(6, 4), (7, low), (18, 48), (19, last)]);
         let mut bytes = head.to_vec(rt.alloc())?;
         bytes.resize(length, 0)?;
-        assert_eq!(rt; numbered(inspect::<Whole, Card>(&bytes)), expected);
+        whole_cards(&bytes, expected)?;
     }
     Ok(())
 }
@@ -146,6 +131,5 @@ fn most_jobs(rt: HostRuntime) -> Result<(), Fail> {
     for _ in 0..4096 {
         bytes.extend_from_slice(&[0, 0, 0, 0, 0, 0, 0, 1, 0, 0, 0, 1, 0, 0, 0, 0])?;
     }
-    assert_eq!(rt; inspect::<Whole, Card>(&bytes), Ok(4096));
-    Ok(())
+    whole_cards(&bytes, Ok(4096))
 }

@@ -3,6 +3,8 @@
 #![tactic(auto)]
 
 #[cfg(test)]
+mod answers;
+#[cfg(test)]
 mod block_tests;
 #[cfg(test)]
 mod byte_tests;

@@ -1,13 +1,11 @@
 // Two faults in one archive: the one that is read first is answered.
-use crate::tables::{THREE_JOBS, numbered, with};
-use archive::inspect::inspect;
-use kinds::item::Item;
-use kinds::volume::VolumePage;
+use crate::answers::three_jobs;
+use std::test::Fail;
 
 // Heading, pairs, opening values, the blocks in turn with all of a block's 16 before its first 17, looks before
 // puts, and then the play.
 #[test]
-fn first_fault(rt: HostRuntime) {
+fn first_fault() -> Result<(), Fail> {
     for (one, other, number, place) in [
         ((3, 0), (15, 0), 14, 0),
         ((15, 0), (43, 0), 15, 12),
@@ -24,11 +22,7 @@ fn first_fault(rt: HostRuntime) {
         ((106, 1), (231, 6), 19, 96),
         ((135, 78), (223, 1), 19, 118),
     ] {
-        let bytes = with(THREE_JOBS, &[one, other]);
-        assert_eq!(rt;
-            numbered(inspect::<VolumePage, Item>(&bytes)),
-            Err((number, Some(place))),
-            "{one:?} and {other:?}"
-        );
+        three_jobs(&[one, other], Err((number, Some(place))))?;
     }
+    Ok(())
 }

@@ -1,5 +1,6 @@
 // The play: the values after each number of jobs, and what is refused.
-use crate::tables::{THREE_JOBS, numbered, with};
+use crate::answers::numbered;
+use crate::tables::{THREE_JOBS, with};
 use archive::play::play;
 use kinds::item::Item;
 use kinds::value::Record;
@@ -22,6 +23,29 @@ fn holds(space: &[Item], values: &[Item]) -> Result<(), Fail> {
     Ok(())
 }
 
+// A play of so many jobs leaves these values.
+fn leaves(bytes: &[u8], jobs: usize, values: &[Item; 3]) -> Result<(), Fail> {
+    let mut space = [BEFORE; 3];
+    play::<VolumePage, Item>(bytes, jobs, &mut space)?;
+    holds(&space, values)
+}
+
+// A play of so many jobs into a space of this size has this fault, by its number and its place, and the space
+// stays.
+fn stays(bytes: &[u8], jobs: usize, size: usize, fault: (u8, Option<usize>)) -> Result<(), Fail> {
+    let mut space = [BEFORE; 5];
+    let answer = match space.get_mut(..size) {
+        Some(space) => numbered(play::<VolumePage, Item>(bytes, jobs, space)),
+        None => Ok(()),
+    };
+    if answer != Err(fault) {
+        return Err(Fail::new(format_args!(
+            "{size} places and {jobs} jobs give {answer:?}, and not {fault:?}"
+        )));
+    }
+    holds(&space, &[BEFORE; 5])
+}
+
 // After no job the opening values, and after each job its puts too.
 #[test]
 fn plays() -> Result<(), Fail> {
@@ -37,25 +61,20 @@ fn plays() -> Result<(), Fail> {
         Item::Solid { shape: 5 },
     ];
     for (jobs, values) in [(0, opening), (1, once), (2, twice), (3, twice)] {
-        let mut space = [BEFORE; 3];
-        play::<VolumePage, Item>(&THREE_JOBS, jobs, &mut space)?;
-        holds(&space, &values)?;
+        leaves(&THREE_JOBS, jobs, &values)?;
     }
     Ok(())
 }
 
 // A space that is too short or too long, and more jobs than there are: 18, and the space stays.
 #[test]
-fn refused(rt: HostRuntime) -> Result<(), Fail> {
+fn refused() -> Result<(), Fail> {
     for size in 0..5 {
         for jobs in 0..6 {
             if size == 3 && jobs <= 3 {
                 continue;
             }
-            let mut space = [BEFORE; 5];
-            let answer = play::<VolumePage, Item>(&THREE_JOBS, jobs, &mut space[..size]);
-            assert_eq!(rt; numbered(answer), Err((18, None)), "{size} and {jobs}");
-            holds(&space, &[BEFORE; 5])?;
+            stays(&THREE_JOBS, jobs, size, (18, None))?;
         }
     }
     Ok(())
@@ -63,7 +82,7 @@ fn refused(rt: HostRuntime) -> Result<(), Fail> {
 
 // The archive's faults come before 18, and the space stays.
 #[test]
-fn faults(rt: HostRuntime) -> Result<(), Fail> {
+fn faults() -> Result<(), Fail> {
     for (at, byte, number, place) in [
         (0, 0, 14, 0),
         (43, 0, 15, 36),
@@ -73,10 +92,7 @@ fn faults(rt: HostRuntime) -> Result<(), Fail> {
     ] {
         let bytes = with(THREE_JOBS, &[(at, byte)]);
         for size in 0..5 {
-            let mut space = [BEFORE; 5];
-            let answer = play::<VolumePage, Item>(&bytes, 3, &mut space[..size]);
-            assert_eq!(rt; numbered(answer), Err((number, Some(place))), "{size}");
-            holds(&space, &[BEFORE; 5])?;
+            stays(&bytes, 3, size, (number, Some(place)))?;
         }
     }
     Ok(())
@@ -86,10 +102,9 @@ fn faults(rt: HostRuntime) -> Result<(), Fail> {
 #[test]
 fn looks_are_not_played() -> Result<(), Fail> {
     let bytes = with(THREE_JOBS, &[(106, 1), (231, 6)]);
-    let mut space = [BEFORE; 3];
-    play::<VolumePage, Item>(&bytes, 0, &mut space)?;
-    holds(
-        &space,
+    leaves(
+        &bytes,
+        0,
         &[
             Item::Withdrawn,
             Item::Solid { shape: 77 },

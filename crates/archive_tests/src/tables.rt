@@ -1,5 +1,4 @@
-// The archives that are damaged, and how answers are compared.
-use archive::fault::Fault;
+// The archives that are damaged.
 
 // No job. Each kind has its value.
 pub const NO_JOB: [u8; 32] = [
@@ -94,9 +93,4 @@ pub fn with<const N: usize>(archive: [u8; N], changes: &[(usize, u8)]) -> [u8; N
         }
     }
     bytes
-}
-
-// What was answered, a fault by its number and its place.
-pub fn numbered<T>(answer: Result<T, Fault>) -> Result<T, (u8, Option<usize>)> {
-    answer.map_err(|fault| (u8::from(fault), fault.place()))
 }

@@ -1,14 +1,21 @@
 // The inspection by the kinds in the heading, its limit, and its lines.
-use crate::tables::{NO_JOB, ONE_JOB, THREE_JOBS, numbered, with};
+use crate::answers::{Answer, is, numbered};
+use crate::tables::{NO_JOB, ONE_JOB, THREE_JOBS, with};
 use archive::fault::Fault;
 use inspection::by_kinds::inspect_by_kinds;
 use inspection::finding::{Finding, find};
 use inspection::input::{inspect_input, line};
+use std::alloc::Global;
 use std::test::Fail;
+
+// The answer to bytes is this one, where they are read by the kinds in their heading.
+fn by_its_kinds(bytes: &[u8], expected: Answer) -> Result<(), Fail> {
+    is(numbered(inspect_by_kinds(bytes)), expected, &[])
+}
 
 // Each kind that is supplied, and the numbers around them.
 #[test]
-fn by_kinds(rt: HostRuntime) {
+fn by_kinds() -> Result<(), Fail> {
     for stamps in 0..4 {
         for values in 0..4 {
             let bytes = with(NO_JOB, &[(4, stamps), (5, values)]);
@@ -17,17 +24,34 @@ fn by_kinds(rt: HostRuntime) {
             } else {
                 Err((14, Some(0)))
             };
-            assert_eq!(rt; numbered(inspect_by_kinds(&bytes)), expected);
+            by_its_kinds(&bytes, expected)?;
         }
     }
-    assert_eq!(rt; inspect_by_kinds(&ONE_JOB), Ok(1));
-    assert_eq!(rt; inspect_by_kinds(&THREE_JOBS), Ok(3));
+    by_its_kinds(&ONE_JOB, Ok(1))?;
+    by_its_kinds(&THREE_JOBS, Ok(3))?;
     for length in 0..12 {
-        assert_eq!(rt;
-            numbered(inspect_by_kinds(&ONE_JOB[..length])),
-            Err((14, Some(0)))
-        );
+        by_its_kinds(&ONE_JOB[..length], Err((14, Some(0))))?;
     }
+    Ok(())
+}
+
+// A text is this one.
+fn reads(text: &str, expected: &str) -> Result<(), Fail> {
+    if text == expected {
+        Ok(())
+    } else {
+        Err(Fail::new(format_args!("{text:?}, and not {expected:?}")))
+    }
+}
+
+// The line of a finding is this one.
+fn has_line(heap: Global, finding: Finding, expected: &str) -> Result<(), Fail> {
+    reads(line(heap, finding)?.as_str(), expected)
+}
+
+// The line of an input of these bytes is this one.
+fn is_told(heap: Global, bytes: &[u8], expected: &str) -> Result<(), Fail> {
+    reads(inspect_input(heap, bytes)?.as_str(), expected)
 }
 
 #[test]
@@ -36,14 +60,10 @@ fn limit(rt: HostRuntime) -> Result<(), Fail> {
     bytes.resize(65_536, 0)?;
     let fault = Fault::PairWrong { place: 20 };
     assert_eq!(rt; find(&bytes), Finding::Faulty { fault });
-    assert_eq!(rt;
-        inspect_input(rt.alloc(), &*bytes)?.as_str(),
-        "fault 15 20\n"
-    );
+    is_told(rt.alloc(), &bytes, "fault 15 20\n")?;
     bytes.push(0)?;
     assert_eq!(rt; find(&bytes), Finding::TooLong);
-    assert_eq!(rt; inspect_input(rt.alloc(), &*bytes)?.as_str(), "too long\n");
-    Ok(())
+    is_told(rt.alloc(), &bytes, "too long\n")
 }
 
 #[test]
@@ -66,15 +86,8 @@ fn lines(rt: HostRuntime) -> Result<(), Fail> {
         ),
         (Finding::TooLong, "too long\n"),
     ] {
-        assert_eq!(rt; line(heap, finding)?.as_str(), expected);
+        has_line(heap, finding, expected)?;
     }
-    assert_eq!(rt;
-        inspect_input(heap, ONE_JOB.as_slice())?.as_str(),
-        "sound 1\n"
-    );
-    assert_eq!(rt;
-        inspect_input(heap, &NO_JOB[..11])?.as_str(),
-        "fault 14 0\n"
-    );
-    Ok(())
+    is_told(heap, &ONE_JOB, "sound 1\n")?;
+    is_told(heap, &NO_JOB[..11], "fault 14 0\n")
 }
