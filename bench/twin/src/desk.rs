@@ -1,11 +1,10 @@
 //! A desk that carries out the commands of a schedule on one register.
-use crate::archive;
 use crate::record::Record;
-use crate::register::{settle, Entry, Image, Job, Refused, Registrar, Row, Shown, Verdict};
+use crate::register::{settle, Image, Job, Refused, Registrar, Shown};
 use crate::stamp::Stamp;
-use crate::words::{hex, name, number, printed};
+use crate::words::{name, number, printed};
 use std::collections::HashMap;
-use std::fmt::{self, Display, Formatter, Write};
+use std::fmt::{self, Display, Write};
 
 /// Why a line is no call.
 pub type Reason = String;
@@ -14,18 +13,18 @@ pub fn wrong<T>(reason: &str) -> Result<T, Reason> {
     Err(reason.to_string())
 }
 
-enum Holding<S, R> {
+pub(crate) enum Holding<S, R> {
     Job(Job<S, R>),
     Ticket(u32),
 }
 
 pub struct Desk<S, R> {
-    registrar: Registrar<S, R>,
+    pub(crate) registrar: Registrar<S, R>,
     /// The image of each number; that of number 0 was never published.
-    images: Vec<Image<S, R>>,
-    holdings: HashMap<String, Holding<S, R>>,
-    calls: u64,
-    refused: u64,
+    pub(crate) images: Vec<Image<S, R>>,
+    pub(crate) holdings: HashMap<String, Holding<S, R>>,
+    pub(crate) calls: u64,
+    pub(crate) refused: u64,
 }
 
 /// A desk whose kinds are not seen.
@@ -34,33 +33,11 @@ pub trait Drive {
     fn close(&self, out: &mut String);
 }
 
-struct OrNone<T>(Option<T>);
-
-impl<T: Display> Display for OrNone<T> {
-    fn fmt(&self, f: &mut Formatter<'_>) -> fmt::Result {
-        match &self.0 {
-            Some(x) => x.fmt(f),
-            None => f.write_str("none"),
-        }
-    }
-}
-
-impl<S: Display> Display for Verdict<S> {
-    fn fmt(&self, f: &mut Formatter<'_>) -> fmt::Result {
-        match self {
-            Verdict::Accepted(stamp) => write!(f, "accepted {stamp}"),
-            Verdict::Overtaken => f.write_str("overtaken"),
-            Verdict::Gone => f.write_str("gone"),
-            Verdict::NoPlace => f.write_str("no place"),
-        }
-    }
-}
-
 fn called(word: &[u8]) -> Result<&str, Reason> {
     name(word).ok_or_else(|| "expected a name of letters and digits".to_string())
 }
 
-fn numbered(word: &[u8]) -> Result<u64, Reason> {
+pub(crate) fn numbered(word: &[u8]) -> Result<u64, Reason> {
     number(word).ok_or_else(|| "expected a number".to_string())
 }
 
@@ -68,7 +45,7 @@ fn valued<R: Record>(word: &[u8]) -> Result<R, Reason> {
     R::parse(word).ok_or_else(|| "expected a value of the register's record kind".to_string())
 }
 
-fn place(n: u64) -> usize {
+pub(crate) fn place(n: u64) -> usize {
     usize::try_from(n).unwrap_or(usize::MAX)
 }
 
@@ -157,132 +134,6 @@ impl<S: Stamp, R: Record> Desk<S, R> {
             Ok(answer) => writeln!(out, "{call}: {answer}"),
             Err(number) => writeln!(out, "{call}: refused {number}"),
         };
-    }
-
-    fn show_row(out: &mut String, record: &str, row: &Row<S, R>) {
-        let _ = write!(
-            out,
-            "row {record}: {} read {} versions",
-            row.value, row.read
-        );
-        for version in row.versions.list() {
-            let _ = write!(out, " {version}");
-        }
-        let _ = writeln!(out, " first {}", OrNone(row.first));
-    }
-
-    fn show_job(out: &mut String, name: &str, job: &Job<S, R>) {
-        let state = if job.live { "live" } else { "shut" };
-        let _ = writeln!(
-            out,
-            "job {name}: image {} {state} lower {} upper {}",
-            job.image,
-            job.lower,
-            OrNone(job.upper)
-        );
-        for (
-            i,
-            Entry {
-                record,
-                noted,
-                saw,
-                wrote,
-                seen,
-                put,
-                open,
-            },
-        ) in job.sheet.iter().enumerate()
-        {
-            let _ = write!(
-                out,
-                "  entry {i}: record {record} noted {noted} seen {saw} put {wrote}"
-            );
-            for (flag, word) in [(seen, "seen"), (put, "put"), (open, "open")] {
-                if *flag {
-                    let _ = write!(out, " {word}");
-                }
-            }
-            out.push('\n');
-        }
-    }
-
-    fn show_journal(&self, out: &mut String) {
-        let jobs = self.registrar.journal();
-        let _ = writeln!(out, "journal: {} jobs", jobs.len());
-        for (head, entries) in jobs {
-            let _ = write!(out, "  {} ticket {} looks", head.stamp, head.ticket);
-            for entry in entries.iter().filter(|entry| entry.seen) {
-                let _ = write!(out, " {}@{}={}", entry.record, entry.noted, entry.saw);
-            }
-            out.push_str(" puts");
-            for entry in entries.iter().filter(|entry| entry.put) {
-                let _ = write!(out, " {}={}", entry.record, entry.wrote);
-            }
-            out.push('\n');
-        }
-    }
-
-    fn show_image(out: &mut String, image: &Image<S, R>) {
-        let _ = writeln!(
-            out,
-            "image {}: {} records, {} outcomes",
-            image.number,
-            image.rows.len(),
-            image.outcomes.len()
-        );
-        for (i, row) in image.rows.iter().enumerate() {
-            let _ = writeln!(
-                out,
-                "  {i}: {} write {} read {} first {}",
-                row.value,
-                row.write,
-                row.read,
-                OrNone(row.first)
-            );
-        }
-        for outcome in &image.outcomes {
-            let _ = writeln!(
-                out,
-                "  outcome: ticket {} {}",
-                outcome.ticket, outcome.verdict
-            );
-        }
-    }
-
-    fn show_archive(&self, out: &mut String) {
-        let bytes = archive::write(&self.registrar);
-        let _ = writeln!(out, "archive: {} bytes", bytes.len());
-        for line in bytes.chunks(32) {
-            let _ = writeln!(out, "  {}", hex(line));
-        }
-    }
-
-    fn show_inspected(&self, out: &mut String) {
-        let _ = match archive::inspect::<S, R>(&archive::write(&self.registrar)) {
-            Ok(jobs) => writeln!(out, "inspect: sound {jobs}"),
-            Err(fault) => writeln!(
-                out,
-                "inspect: fault {} {}",
-                fault.number,
-                fault.place.unwrap_or(0)
-            ),
-        };
-    }
-
-    fn show_played(&self, out: &mut String, word: &[u8]) -> Result<(), Reason> {
-        let jobs = place(numbered(word)?);
-        let mut values = self.registrar.opening.clone();
-        let _ = match archive::play::<S, R>(&archive::write(&self.registrar), jobs, &mut values) {
-            Ok(()) => {
-                let _ = writeln!(out, "play {}: {} values", printed(word), values.len());
-                values
-                    .iter()
-                    .enumerate()
-                    .try_for_each(|(i, value)| writeln!(out, "  {i}: {value}"))
-            }
-            Err(fault) => writeln!(out, "play {}: refused {}", printed(word), fault.number),
-        };
-        Ok(())
     }
 
     fn on_job(&mut self, words: &[&[u8]], out: &mut String) -> Result<(), Reason> {

@@ -4,8 +4,10 @@
 
 pub mod archive;
 pub mod desk;
+pub mod job;
 pub mod record;
 pub mod register;
 pub mod run;
+mod show;
 pub mod stamp;
 pub mod words;
