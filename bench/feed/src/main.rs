@@ -1,5 +1,5 @@
 //! Feeds one input to two programs, and reports where they answer otherwise.
-//! compare schedules COUNT SEED OURS TWIN, compare archives COUNT SEED OURS TWIN, or compare one SEED STEPS, which
+//! feed schedules COUNT SEED OURS TWIN, feed archives COUNT SEED OURS TWIN, or feed one SEED STEPS, which
 //! prints a schedule.
 #![forbid(unsafe_code)]
 
