@@ -7,6 +7,7 @@ use Rattle.registrar.specs.declared.journal.Head.{Head}
 use Rattle.model.specs.declared.verdict.Verdict.{Verdict}
 use Rattle.model.specs.Tables.{lawful_size, sized}
 use Rattle.station.specs.Station.{Station, work_of}
+use Rattle.registrar.specs.Calls.{Lengths}
 use Rattle.registrar.specs.Deciding.{Waiting}
 use Rattle.registrar.proofs.Heads.{stepped_within}
 use Rattle.std.proofs.lemmas.List.Edits.{length-insert}
@@ -15,26 +16,14 @@ use Rattle.model.proofs.Laid.{length-laid, length-laid_from}
 use Rattle.law.proofs.RowLaws.{length-rows_after, length-firsts_after, length-founded}
 
 module _ {S R : Type 0} where
-  -- every table has its length, for a register of n records
-  pub record Tables (n : ℕ) (g : Registry S R) : Type 0 where
-    pub records : lawful_size n ≡ true
-    pub rows : length g.rows ≡ n
-    pub firsts : length g.firsts ≡ n
-    pub opening : length g.opening ≡ n
-    pub queue : length g.queue ≡ 16
-    pub queued : length g.queued ≡ 256
-    pub outcomes : length g.outcomes ≡ 32
-    pub some_head : 1 ≤ length g.heads
-    pub heads : length g.heads ≤ 4096
-    pub lines : length g.lines ≡ 16 * length g.heads
-
   abbrev pub Sizes : Registry S R → Type 0
-  Sizes g = Tables g.own.records g
+  Sizes g = Lengths g.own.records g
 
   -- the test on all tables says each of these, and the other way round
-  pub tables : (n : ℕ) (g : Registry S R) → tables_sized n g ≡ true → Tables n g
+  pub tables : (n : ℕ) (g : Registry S R) → tables_sized n g ≡ true → Lengths n g
   tables n g h =
       let a = and_parts (lawful_size n) _ h in
+      let r = and_parts (leb 1 n) _ a.0 in
       let b = and_parts (sized g.rows n) _ a.1 in
       let c = and_parts (sized g.firsts n) _ b.1 in
       let d = and_parts (sized g.opening n) _ c.1 in
@@ -44,7 +33,8 @@ module _ {S R : Type 0} where
       let l = and_parts (leb 1 (length g.heads) && leb (length g.heads) 4096) _ k.1 in
       let m = and_parts (leb 1 (length g.heads)) _ l.0 in
       record {
-        records = a.0;
+        some = leb-true _ _ r.0;
+        most = leb-true _ _ r.1;
         rows = eqb-true _ _ b.0;
         firsts = eqb-true _ _ c.0;
         opening = eqb-true _ _ d.0;
@@ -56,9 +46,9 @@ module _ {S R : Type 0} where
         lines = eqb-true _ _ l.1;
       }
 
-  pub tables_by : (n : ℕ) (g : Registry S R) → Tables n g → tables_sized n g ≡ true
+  pub tables_by : (n : ℕ) (g : Registry S R) → Lengths n g → tables_sized n g ≡ true
   tables_by n g t =
-      and_from _ _ t.records (and_from _ _ (eq-eqb _ _ t.rows) (and_from _ _ (eq-eqb _ _ t.firsts) (and_from _ _ (eq-eqb _ _ t.opening)
+      and_from _ _ (and_from _ _ (le-leb _ _ t.some) (le-leb _ _ t.most)) (and_from _ _ (eq-eqb _ _ t.rows) (and_from _ _ (eq-eqb _ _ t.firsts) (and_from _ _ (eq-eqb _ _ t.opening)
       (and_from _ _ (eq-eqb _ _ t.queue) (and_from _ _ (eq-eqb _ _ t.queued) (and_from _ _ (eq-eqb _ _ t.outcomes)
       (and_from _ _ (and_from _ _ (le-leb _ _ t.some_head) (le-leb _ _ t.heads)) (eq-eqb _ _ t.lines))))))))
 
@@ -74,7 +64,8 @@ module _ {S R : Type 0} where
       let z = sizes g h in
       sized_by (submitted g t)
       (record {
-        records = z.records;
+        some = z.some;
+        most = z.most;
         rows = z.rows;
         firsts = z.firsts;
         opening = z.opening;
@@ -91,7 +82,8 @@ module _ {S R : Type 0} where
       let z = sizes g h in
       sized_by (cleared g)
       (record {
-        records = z.records;
+        some = z.some;
+        most = z.most;
         rows = z.rows;
         firsts = length-replicate (length g.firsts) _ ∙ z.firsts;
         opening = z.opening;
@@ -108,7 +100,8 @@ module _ {S R : Type 0} where
       let z = tables (length values) g h in
       sized_by (founded o values g)
       (record {
-        records = z.records;
+        some = z.some;
+        most = z.most;
         rows = length-founded o values g.rows (sym z.rows);
         firsts = length-replicate (length values) _;
         opening = refl;
@@ -131,7 +124,8 @@ module _ {S R : Type 0} (k : Kind S) where
       let z = sizes g h in
       sized_by (passed_over k g w v)
       (record {
-        records = z.records;
+        some = z.some;
+        most = z.most;
         rows = z.rows;
         firsts = z.firsts;
         opening = z.opening;
@@ -156,7 +150,8 @@ module _ {S R : Type 0} (k : Kind S) where
       let b = lines_taken g w s h j n in
       sized_by (taken_up k g w s)
       (record {
-        records = z.records;
+        some = z.some;
+        most = z.most;
         rows = length-rows_after k.order s w.entries g.rows ∙ z.rows;
         firsts = length-firsts_after s w.entries g.firsts ∙ z.firsts;
         opening = z.opening;

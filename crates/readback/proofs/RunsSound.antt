@@ -1,10 +1,9 @@
 -- The journal of every run is sound.
 use mathlib.Core.List.Permᴰ
-use Rattle.std.proofs.Common.{◌≡◌, ℕ, ◌<◌, ◌≤◌, leb, List, [], ◌∷◌, length, take, Some, Ok, sym, refl, ap, ◌∙◌, subst, arith}
+use Rattle.std.proofs.Common.{◌≡◌, ℕ, ◌<◌, ◌≤◌, List, [], ◌∷◌, length, take, Some, Ok, sym, refl, ap, ◌∙◌, subst, arith}
 use Rattle.std.specs.Option.{option_map}
 use Rattle.std.specs.List.{AllByRecursion, slice_get}
 use Rattle.std.proofs.lemmas.List.{length-take, length-map}
-use Rattle.std.proofs.lemmas.Bool.{and_parts, leb-true}
 use Rattle.kinds.specs.Forms.{Form}
 use Rattle.kinds.specs.Stamps.{Order, Kind, Lawful}
 use Rattle.model.specs.Rows.{stood}
@@ -41,9 +40,8 @@ module _ {S R : Type 0} (k : Kind S) (laws : Lawful k) (values : List R) (d : De
   orderly_journal : Orderly k.order d.registry.opening (journal_of d.registry)
   orderly_journal =
       let z = sizes d.registry h.sized in
-      let n = and_parts (leb 1 d.registry.own.records) (leb d.registry.own.records 1024) z.records in
-      let n1 : 1 ≤ d.registry.own.records = leb-true _ _ n.0 in
-      let n2 : d.registry.own.records ≤ 1024 = leb-true _ _ n.1 in
+      let n1 : 1 ≤ d.registry.own.records = z.some in
+      let n2 : d.registry.own.records ≤ 1024 = z.most in
       let o : length d.registry.opening ≡ d.registry.own.records = z.opening in
       record {
         some_records = omega arith;

@@ -1,7 +1,7 @@
 -- The whole archive: how long it is, and what a call answers and leaves.
-use Rattle.std.proofs.Common.{◌≡◌, ℕ, ◌+◌, ◌*◌, ◌<◌, ◌≤◌, Bool, true, false, cond, leb, List, ◌∷◌, ◌++◌, map, length, take, Ok, Err, sym, refl, ap, ◌∙◌, mul-suc, arith, length-append}
+use Rattle.std.proofs.Common.{◌≡◌, ℕ, ◌+◌, ◌*◌, ◌<◌, ◌≤◌, Bool, true, false, cond, List, ◌∷◌, ◌++◌, map, length, take, Ok, Err, sym, refl, ap, ◌∙◌, mul-suc, arith, length-append}
 use Rattle.std.specs.List.{flat_map}
-use Rattle.std.proofs.lemmas.Bool.{and_parts, leb-true, le-leb, lt-leb}
+use Rattle.std.proofs.lemmas.Bool.{le-leb, lt-leb}
 use Rattle.std.proofs.lemmas.List.{length-map, length-take}
 use Rattle.std.proofs.lemmas.List.Folds.{flat_map-map}
 use Rattle.std.proofs.lemmas.Simd.{map-map}
@@ -78,11 +78,7 @@ module _ {S R : Type 0} (o : Order S) (k : RecordKind R) (g : Registry S R) wher
 
   -- no more values and jobs than the limits
   pub few_values : registry_sized g ≡ true → length g.opening ≤ 1024
-  few_values h =
-      let t = sizes g h in
-      let a = and_parts (leb 1 g.own.records) _ t.records in
-      let b = leb-true g.own.records 1024 a.1 in
-      omega (arith, t.opening, b)
+  few_values h = let t = sizes g h in omega (arith, t.opening, t.most)
 
   pub few_jobs : registry_sized g ≡ true → length (take g.own.jobs g.heads) ≤ 4096
   few_jobs h = let t = sizes g h in let l = length-take g.own.jobs g.heads in omega (arith, t.heads, l)
