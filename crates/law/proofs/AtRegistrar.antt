@@ -38,9 +38,9 @@ module _ {S R : Type 0} where
   laid_push [] w = refl
   laid_push (v ∷ vs) w = ap (λ ls. laid_of v ∷ ls) (laid_push vs w)
 
-  -- a submission that is taken finds a place in the queue
-  pub queue_room : (g : Registry S R) (t : Station S R) → submit_refused g t ≡ None → g.own.waiting < 16
-  queue_room g t e =
+  -- a submission that is taken finds a place in the queue, and a ticket left
+  pub submit_room : (g : Registry S R) (t : Station S R) → submit_refused g t ≡ None → (g.own.waiting < 16) × (g.own.tickets < 4294967295)
+  submit_room g t e =
       let last : Option Refusal = refused_if (leb 4294967295 g.own.tickets) CountEnded None in
       let full : Option Refusal = refused_if (leb 16 g.own.waiting) QueueFull last in
       let away : Option Refusal = refused_if (beyond g.own.records (work_of t).entries) NoSuchRecord full in
@@ -48,7 +48,8 @@ module _ {S R : Type 0} where
       let a = refused_none (not (registry_sized g && sized t.sheet 16)) WrongTables shut e in
       let b = refused_none (is_shut t.job.standing) JobShut away a.1 in
       let c = refused_none (beyond g.own.records (work_of t).entries) NoSuchRecord full b.1 in
-      leb-false 16 g.own.waiting (refused_none (leb 16 g.own.waiting) QueueFull last c.1).0
+      let d = refused_none (leb 16 g.own.waiting) QueueFull last c.1 in
+      (leb-false 16 g.own.waiting d.0, leb-false 4294967295 g.own.tickets (refused_none (leb 4294967295 g.own.tickets) CountEnded None d.1).0)
 
   -- a decision that is made finds a place in the journal
   pub journal_room : (k : Kind S) (g : Registry S R) → decide_refused k g ≡ None → g.own.jobs < length g.heads
@@ -95,7 +96,7 @@ module _ {S R : Type 0} (k : Kind S) (laws : Lawful k) (values : List R) (d : De
         ok = h.job_ok j t q
 
         room : d.registry.own.waiting < 16
-        room = queue_room d.registry t e
+        room = (submit_room d.registry t e).0
 
         now : queue_of (submitted d.registry t) ≡ queue_of d.registry ++ (handed_in d.registry t ∷ [])
         now = queue-submitted d.registry t h.sized ok.good.few room

@@ -26,7 +26,7 @@ use Rattle.law.proofs.Queues.{queue_kept, queue-submitted, queue_decided, handed
 use Rattle.law.proofs.Acceptance.{top_in, top_at, older_in, Fits}
 use Rattle.law.proofs.Invariant.{laid_of, WaitingOk, Inv}
 use Rattle.law.proofs.EveryRun.{next_inv, founded_inv}
-use Rattle.law.proofs.AtRegistrar.{queue_room, accepted_fits, first_in_line}
+use Rattle.law.proofs.AtRegistrar.{submit_room, accepted_fits, first_in_line}
 
 -- an accepted job as it was handed in
 pub record Neat {S R : Type 0} (records : ℕ) (a : AcceptedJob S R) : Type 0 where
@@ -95,7 +95,7 @@ module _ {S R : Type 0} (k : Kind S) (laws : Lawful k) (values : List R) (d : De
       }
     where
       now : queue_of (submitted d.registry t) ≡ queue_of d.registry ++ (handed_in d.registry t ∷ [])
-      now = queue-submitted d.registry t h.sized n (queue_room d.registry t e)
+      now = queue-submitted d.registry t h.sized n (submit_room d.registry t e).0
 
       joined : (w : Waiting S R) → In w (queue_of (submitted d.registry t)) → In w (queue_of d.registry) ⊎ (w ≡ handed_in d.registry t)
       joined w c = in_push (queue_of d.registry) (handed_in d.registry t) (subst (λ (z : List (Waiting S R)). In w z) now c)

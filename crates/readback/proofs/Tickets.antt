@@ -1,38 +1,20 @@
 -- No call takes the count of tickets past its end.
-use Rattle.std.proofs.Common.{◌≡◌, ℕ, ◌+◌, ◌<◌, ◌≤◌, not, ◌&&◌, leb, List, [], ◌∷◌, Some, None, Ok, Err, Option, Result, refl, arith}
-use Rattle.std.proofs.lemmas.Bool.{leb-false}
+use Rattle.std.proofs.Common.{◌≡◌, ℕ, ◌+◌, ◌≤◌, List, [], ◌∷◌, Some, None, Ok, Err, Option, Result, refl, arith}
 use Rattle.kinds.specs.Stamps.{Kind}
 use Rattle.model.specs.declared.entry.Entry.{Entry}
 use Rattle.model.specs.declared.verdict.Verdict.{Verdict}
 use Rattle.model.specs.declared.verdict.Verdict.TheVariants.{Accepted, Overtaken, Gone, NoPlace}
 use Rattle.model.specs.declared.refusal.Refusal.{Refusal}
-use Rattle.model.specs.declared.refusal.Refusal.TheVariants.{WrongTables, JobShut, NoSuchRecord, QueueFull, CountEnded}
-use Rattle.model.specs.Refusals.{refused_if}
-use Rattle.model.specs.Tables.{sized}
-use Rattle.model.specs.Sheets.{beyond}
 use Rattle.station.specs.declared.job.Job.{Job}
-use Rattle.station.specs.Station.{Image, Station, Answered, work_of, is_shut, open_job, look_job, put_job, tune_job}
+use Rattle.station.specs.Station.{Image, Station, Answered, open_job, look_job, put_job, tune_job}
 use Rattle.registrar.specs.Deciding.{Waiting, verdict_on}
-use Rattle.registrar.specs.Registry.{Registry, registry_sized, queue_of, submit, submit_refused, submitted, unless, decide, decide_refused, decide_oldest, by_verdict, publish, publish_refused, published_unless}
+use Rattle.registrar.specs.Registry.{Registry, queue_of, submit, submit_refused, submitted, unless, decide, decide_refused, decide_oldest, by_verdict, publish, publish_refused, published_unless}
 use Rattle.law.specs.Runs.{Call, opens, looks, puts, tunes, submits, decides, publishes, Answer, shown, done, stands, Desk, image_numbered, given, standing_at, after_open, after_call, after_submit, after_publish, step, Run, next, run}
-use Rattle.law.proofs.Jobs.{refused_none}
+use Rattle.law.proofs.AtRegistrar.{submit_room}
 
 -- so many tickets as a count of four bytes has
 abbrev pub Counted : {S R : Type 0} → Registry S R → Type 0
 Counted g = g.own.tickets ≤ 4294967295
-
--- a submission that is taken finds a ticket left
-ticket_left : {S R : Type 0} (g : Registry S R) (t : Station S R) → submit_refused g t ≡ None → g.own.tickets < 4294967295
-ticket_left g t e =
-    let last : Option Refusal = refused_if (leb 4294967295 g.own.tickets) CountEnded None in
-    let full : Option Refusal = refused_if (leb 16 g.own.waiting) QueueFull last in
-    let away : Option Refusal = refused_if (beyond g.own.records (work_of t).entries) NoSuchRecord full in
-    let shut : Option Refusal = refused_if (is_shut t.job.standing) JobShut away in
-    let a = refused_none (not (registry_sized g && sized t.sheet 16)) WrongTables shut e in
-    let b = refused_none (is_shut t.job.standing) JobShut away a.1 in
-    let c = refused_none (beyond g.own.records (work_of t).entries) NoSuchRecord full b.1 in
-    let d = refused_none (leb 16 g.own.waiting) QueueFull last c.1 in
-    leb-false 4294967295 g.own.tickets (refused_none (leb 4294967295 g.own.tickets) CountEnded None d.1).0
 
 module _ {S R : Type 0} (k : Kind S) where
   by_counted : (v : Verdict S) (g : Registry S R) (w : Waiting S R) → Counted g → Counted (by_verdict k v g w)
@@ -62,7 +44,7 @@ module _ {S R : Type 0} (k : Kind S) where
     where
       by : (r : Option Refusal) → submit_refused d.registry t ≡ r → let s = unless r d.registry (record { answer = Ok (d.registry.own.tickets + 1); registry = submitted d.registry t }) in Counted (after_submit d j s s.answer).desk.registry
       by (Some r) c = h
-      by None c = let l = ticket_left d.registry t c in omega arith
+      by None c = let l = (submit_room d.registry t c).1 in omega arith
 
   open_counted : (d : Desk S R) (j : ℕ) (sheet : List (Entry S R)) (p : Option (Image S R)) → Counted d.registry → Counted (given p d (λ i. after_open d j sheet (open_job k i))).desk.registry
   open_counted d j sheet None h = h
