@@ -1,29 +1,26 @@
 -- What is accepted is what is written: heading, pairs and values.
-use Rattle.std.proofs.Common.{◌≡◌, ℕ, zero, suc, ◌+◌, ◌*◌, ◌<◌, ◌≤◌, Bool, true, false, cond, ◌&&◌, eqb, leb, List, [], ◌∷◌, ◌++◌, length, get_or, drop, Some, None, Ok, Option, Result, sym, refl, ap, ◌∙◌, subst, mul-suc, arith}
+use Rattle.std.proofs.Common.{◌≡◌, ℕ, zero, suc, ◌+◌, ◌*◌, ◌<◌, ◌≤◌, Bool, true, ◌&&◌, leb, List, [], ◌∷◌, ◌++◌, length, get_or, drop, Some, None, Ok, Option, Result, sym, refl, ap, ◌∙◌, subst, mul-suc, arith}
 use Rattle.std.specs.Option.{ok_or}
 use Rattle.std.proofs.lemmas.List.{length-append, length-drop, get_or-drop}
 use Rattle.std.proofs.lemmas.Bool.{and_parts, leb-true, eqb-true}
-use Rattle.kinds.specs.Bytes.{be4, number4, Bytes, part}
+use Rattle.kinds.specs.Bytes.{be4, Bytes, part}
 use Rattle.kinds.specs.Forms.{Form, Formed}
 use Rattle.kinds.specs.ByteLaws.{forth2, forth4}
 use Rattle.archive.specs.declared.fault.Fault.{Fault}
 use Rattle.archive.specs.declared.fault.Fault.TheVariants.{ValueWrong}
 use Rattle.archive.specs.Faults.{onward}
 use Rattle.archive.specs.Heading.{heading_bytes, mark_right, kinds_right, records_in, jobs_in, sizes_right}
-use Rattle.archive.specs.Directory.{pair_right}
+use Rattle.archive.specs.Directory.{stated_length}
 use Rattle.archive.specs.Values.{values_bytes, read_values, value_first, stated_values}
 use Rattle.archive.proofs.Stands.{Stands, join, bytes_part, part_length}
 use Rattle.archive.proofs.Fields.{take-listed, stands4}
+use Rattle.archive.proofs.KnownPairs.{PairSays}
 
 twelve_same : (s r a b c d e f g h i j k l : ℕ) → a ≡ 65 → b ≡ 83 → c ≡ 74 → d ≡ 49 → e ≡ s → f ≡ r → g < 256 → h < 256 → i < 256 → j < 256 → k < 256 → l < 256
     → a ∷ b ∷ c ∷ d ∷ e ∷ f ∷ g ∷ h ∷ i ∷ j ∷ k ∷ l ∷ [] ≡ heading_bytes s r (g * 256 + h) (i * 16777216 + j * 65536 + k * 256 + l)
 twelve_same s r a b c d e f g h i j k l pa pb pc pd pe pf hg hh hi hj hk hl =
     let x = forth2 g h hg hh in let y = forth4 i j k l hi hj hk hl in
     cc
-
-when_last : (b x : Bool) → cond b x true ≡ true → b ≡ true → x ≡ true
-when_last true x h e = h
-when_last false x h e = let z : ◌≡◌ {A = ℕ} 0 1 = cc in absurd (omega arith)
 
 pub values_length : {R : Type 0} (f : Form R) → Formed 12 f → (vs : List R) → length (values_bytes f vs) ≡ 12 * length vs
 values_length f laws [] = refl
@@ -61,19 +58,9 @@ module _ (bs : List ℕ) (t : Bytes bs) where
       ∙ ap (λ x. heading_bytes s r x (get_or bs 8 0 * 16777216 + get_or bs 9 0 * 65536 + get_or bs 10 0 * 256 + get_or bs 11 0)) (sym sizes_same.0)
       ∙ ap (heading_bytes s r (records_in (drop 6 bs))) (sym sizes_same.1)
 
-  pub pair_stands : (at from : ℕ) (last : Bool) → pair_right bs at from last ≡ true
-      → Stands bs at (be4 from ++ be4 (number4 (part bs (at + 4) 4))) × (from + number4 (part bs (at + 4) 4) ≤ length bs) × (at + 8 ≤ length bs) × (last ≡ true → from + number4 (part bs (at + 4) 4) ≡ length bs)
-  pair_stands at from last h =
-      let a = and_parts _ _ h in
-      let b = and_parts _ _ a.1 in
-      let c = and_parts _ _ b.1 in
-      let n : at + 8 ≤ length bs = leb-true _ _ a.0 in
-      let e : number4 (part bs at 4) ≡ from = eqb-true _ _ b.0 in (
-        join bs at (be4 from) (be4 (number4 (part bs (at + 4) 4))) (subst (λ (m : ℕ). Stands bs at (be4 m)) e (stands4 bs t at (omega arith))) (stands4 bs t (at + 4) (omega arith)),
-        leb-true _ _ c.0,
-        n,
-        λ q. eqb-true _ _ (when_last last (eqb (from + number4 (part bs (at + 4) 4)) (length bs)) c.1 q),
-      )
+  pub pair_stands : (at from end : ℕ) (last : Bool) → PairSays bs at from end last → Stands bs at (be4 from ++ be4 (stated_length bs at))
+  pair_stands at from end last p =
+      join bs at (be4 from) (be4 (stated_length bs at)) (subst (λ (m : ℕ). Stands bs at (be4 m)) p.starts (stands4 bs t at (omega (arith, p.whole)))) (stands4 bs t (at + 4) (omega (arith, p.whole)))
 
   module _ {R : Type 0} (f : Form R) (laws : Formed 12 f) where
     values_step : (at n : ℕ) (o : Option R) → at + 12 ≤ length bs → f.read (part bs at 12) ≡ o

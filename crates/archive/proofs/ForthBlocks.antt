@@ -8,18 +8,19 @@ use Rattle.kinds.specs.Bytes.{be2, be4, number2, number4, Bytes, part}
 use Rattle.kinds.specs.Forms.{Form, Formed}
 use Rattle.law.specs.Daybook.{Look, Put, AcceptedJob}
 use Rattle.archive.specs.declared.fault.Fault.{Fault}
-use Rattle.archive.specs.declared.fault.Fault.TheVariants.{PairWrong, ValueWrong}
+use Rattle.archive.specs.declared.fault.Fault.TheVariants.{ValueWrong}
 use Rattle.archive.specs.declared.blocks.Opened.{Opened}
 use Rattle.archive.specs.Faults.{onward}
-use Rattle.archive.specs.Directory.{pairs_bytes, stated_length, pair_right, read_pair}
+use Rattle.archive.specs.Directory.{pairs_bytes, stated_length, read_pair}
 use Rattle.archive.specs.Values.{read_values}
 use Rattle.archive.specs.Blocks.{stamp_at, all_noted, read_block, read_blocks}
 use Rattle.archive.specs.Journal.{look_bytes, put_bytes, block_bytes, block_lengths, seen_look, stated_looks, seen_put, stated_puts, stated_job, seen_job, stated_jobs}
 use Rattle.archive.proofs.Forth.{pair_stands}
-use Rattle.archive.proofs.KnownBlocks.{block_met}
+use Rattle.archive.proofs.KnownPairs.{pair_says}
+use Rattle.archive.proofs.KnownBlocks.{block_says}
 use Rattle.archive.proofs.Long.{look_long, put_long, looks_long, block_long}
 use Rattle.archive.proofs.Stands.{Stands, join, moved, bytes_part, part_length}
-use Rattle.archive.proofs.Fields.{take-listed, stands4, stands2, guarded, bound, ok_same}
+use Rattle.archive.proofs.Fields.{take-listed, stands4, stands2, bound, ok_same}
 
 module _ {S R : Type 0} (o : Order S) (f : Form R) (laws : Formed 8 o.form) (formed : Formed 12 f) (bs : List ℕ) (t : Bytes bs) where
   -- a stamp and a value that were read stand there
@@ -132,9 +133,9 @@ module _ {S R : Type 0} (o : Order S) (f : Form R) (laws : Formed 8 o.form) (for
   pub block_stands : (n at len : ℕ) (low : S) (h : Opened S) → at + len ≤ length bs → read_block o f bs n at len low ≡ Ok h
       → (s : S) × (stamp_at o bs at ≡ Some s) × Stands bs at (block_bytes o f (stated_job o f bs at s)) × (length (block_bytes o f (stated_job o f bs at s)) ≡ len)
   block_stands n at len low h w q =
-      let m = block_met o f bs n at len low h q in
-      let st = job_stands at m.stamp (omega (arith, m.long)) m.stands m.zeros.0 m.zeros.1 m.noted m.seen m.put in
-      (m.stamp, m.stands, st.0, st.1 ∙ sym m.long)
+      let m = block_says o f bs n at len low h q in
+      let st = job_stands at m.stamp (omega (arith, m.long)) m.stamped m.zeros.0 m.zeros.1 m.noted m.look_values m.put_values in
+      (m.stamp, m.stamped, st.0, st.1 ∙ sym m.long)
 
   -- the pairs and the blocks from a place on
   abbrev BlocksStand : ℕ → ℕ → ℕ → ℕ → List (AcceptedJob S R) → Type 0
@@ -162,14 +163,13 @@ module _ {S R : Type 0} (o : Order S) (f : Form R) (laws : Formed 8 o.form) (for
   blocks_stand zero dir at n end low q = (refl, refl, refl, add-zero at ∙ ok_same at end q)
   blocks_stand (suc m) dir at n end low q =
       let a = bound (read_pair bs dir at (eqb m 0)) _ end q in
-      let g = guarded (pair_right bs dir at (eqb m 0)) (Ok (at + stated_length bs dir)) (PairWrong dir) a.0 a.1 in
-      let ex : at + stated_length bs dir ≡ a.0 = ok_same _ _ g.1 in
-      let p = pair_stands bs t dir at (eqb m 0) g.0 in
+      let p = pair_says bs dir at a.0 (eqb m 0) a.1 in
+      let ex : at + stated_length bs dir ≡ a.0 = p.ends in
       let b = bound (read_block o f bs n at (a.0 - at) low) _ end a.2 in
-      let blk = block_stands n at (a.0 - at) low b.0 (omega (arith, p.1, ex)) b.1 in
+      let blk = block_stands n at (a.0 - at) low b.0 (omega (arith, p.within, ex)) b.1 in
       let ih = blocks_stand m (dir + 8) a.0 n end b.0.stamp b.2 in
       let ih2 : BlocksStand (dir + 8) (at + stated_length bs dir) m end (stated_jobs o f bs (dir + 8) (at + stated_length bs dir) m) = subst (λ (i : ℕ). BlocksStand (dir + 8) i m end (stated_jobs o f bs (dir + 8) i m)) (sym ex) ih in
-      blocks_step dir at m end blk.0 (stamp_at o bs at) (stated_jobs o f bs (dir + 8) (at + stated_length bs dir) m) blk.1 p.0 blk.2 (blk.3 ∙ gap at (stated_length bs dir) a.0 ex) ih2
+      blocks_step dir at m end blk.0 (stamp_at o bs at) (stated_jobs o f bs (dir + 8) (at + stated_length bs dir) m) blk.1 (pair_stands bs t dir at a.0 (eqb m 0) p) blk.2 (blk.3 ∙ gap at (stated_length bs dir) a.0 ex) ih2
     where
       gap : (at n x : ℕ) → at + n ≡ x → x - at ≡ n
       gap at n x e = omega arith

@@ -7,6 +7,7 @@ pub mod Entering
 pub mod Stands
 pub mod Fields
 pub mod Forth
+pub mod KnownPairs
 pub mod KnownBlocks
 pub mod Long
 pub mod ForthBlocks

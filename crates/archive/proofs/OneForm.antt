@@ -12,7 +12,7 @@ use Rattle.archive.specs.declared.fault.Fault.TheVariants.{HeadingWrong, PairWro
 use Rattle.archive.specs.declared.heading.Heading.{Heading}
 use Rattle.archive.specs.Faults.{onward}
 use Rattle.archive.specs.Heading.{heading_bytes, mark_right, kinds_right, sizes_right, read_sizes, read_heading}
-use Rattle.archive.specs.Directory.{pairs_bytes, stated_length, pair_right, read_pair, read_pairs, read_directory}
+use Rattle.archive.specs.Directory.{pairs_bytes, stated_length, read_pair, read_pairs, read_directory}
 use Rattle.archive.specs.Values.{values_bytes, read_values}
 use Rattle.archive.specs.Blocks.{read_block, read_blocks}
 use Rattle.archive.specs.Rule.{read_archive, read_play}
@@ -20,6 +20,7 @@ use Rattle.archive.specs.Journal.{block_bytes, block_lengths, archive_bytes, sta
 use Rattle.archive.specs.Theorems.{OneForm}
 use Rattle.archive.proofs.Stands.{Stands, join, all_of}
 use Rattle.archive.proofs.Fields.{guarded, bound, ok_same}
+use Rattle.archive.proofs.KnownPairs.{pair_says}
 use Rattle.archive.proofs.Forth.{heading_stands, pair_stands, values_stand, values_length}
 use Rattle.archive.proofs.ForthBlocks.{blocks_stand}
 
@@ -31,10 +32,9 @@ module _ {S R : Type 0} (o : Order S) (k : RecordKind R) (laws : Formed 8 o.form
   blocks_end : (m dir at n end : ℕ) (low : S) → read_blocks o k.form bs n dir at low (suc m) ≡ Ok end → end ≡ length bs
   blocks_end zero dir at n end low q =
       let a = bound (read_pair bs dir at true) _ end q in
-      let g = guarded (pair_right bs dir at true) (Ok (at + stated_length bs dir)) (PairWrong dir) a.0 a.1 in
-      let p = pair_stands bs t dir at true g.0 in
+      let p = pair_says bs dir at a.0 true a.1 in
       let b = bound (read_block o k.form bs n at (a.0 - at) low) _ end a.2 in
-      sym (ok_same a.0 end b.2) ∙ sym (ok_same _ _ g.1) ∙ p.3 refl
+      sym (ok_same a.0 end b.2) ∙ p.closes refl
   blocks_end (suc m) dir at n end low q =
       let a = bound (read_pair bs dir at (eqb (suc m) 0)) _ end q in
       let b = bound (read_block o k.form bs n at (a.0 - at) low) _ end a.2 in
@@ -106,17 +106,17 @@ module _ {S R : Type 0} (o : Order S) (k : RecordKind R) (laws : Formed 8 o.form
       let v = bound (read_values k.form bs (20 + 8 * stated_count bs) 12 (stated_records bs)) _ x d.2 in
       let b = bound (read_blocks o k.form bs (stated_records bs) 20 (20 + 8 * stated_count bs + 12 * stated_records bs) o.least (stated_count bs)) _ x v.2 in
       let a = bound (read_pair bs 12 (20 + 8 * stated_count bs) (eqb (stated_count bs) 0)) _ d.0 d.1 in
-      let g = guarded (pair_right bs 12 (20 + 8 * stated_count bs) (eqb (stated_count bs) 0)) (Ok (20 + 8 * stated_count bs + stated_length bs 12)) (PairWrong 12) a.0 a.1 in
+      let p = pair_says bs 12 (20 + 8 * stated_count bs) a.0 (eqb (stated_count bs) 0) a.1 in
       let c = guarded (eqb a.0 (20 + 8 * stated_count bs + 12 * stated_records bs)) (read_pairs bs 20 a.0 (stated_count bs)) (PairWrong 12) d.0 a.2 in
-      let p = pair_stands bs t 12 (20 + 8 * stated_count bs) (eqb (stated_count bs) 0) g.0 in
-      let same : 20 + 8 * stated_count bs + stated_length bs 12 ≡ 20 + 8 * stated_count bs + 12 * stated_records bs = ok_same _ _ g.1 ∙ eqb-true a.0 (20 + 8 * stated_count bs + 12 * stated_records bs) c.0 in
-      let l12 : stated_length bs 12 ≡ 12 * stated_records bs = cut (20 + 8 * stated_count bs) _ _ same in
-      let fits : 20 + 8 * stated_count bs + 12 * stated_records bs ≤ length bs = subst (λ (m : ℕ). m ≤ length bs) same p.1 in
+      let s = pair_stands bs t 12 (20 + 8 * stated_count bs) a.0 (eqb (stated_count bs) 0) p in
+      let first : a.0 ≡ 20 + 8 * stated_count bs + 12 * stated_records bs = eqb-true _ _ c.0 in
+      let l12 : stated_length bs 12 ≡ 12 * stated_records bs = cut (20 + 8 * stated_count bs) _ _ (p.ends ∙ first) in
+      let fits : 20 + 8 * stated_count bs + 12 * stated_records bs ≤ length bs = subst (λ (m : ℕ). m ≤ length bs) first p.within in
       let vals = values_stand bs t k.form formed (stated_records bs) (20 + 8 * stated_count bs) fits v.1 in
       let blks = blocks_stand o k.form laws formed bs t (stated_count bs) 20 (20 + 8 * stated_count bs + 12 * stated_records bs) (stated_records bs) b.0 o.least b.1 in
-      let ends = archive_end (stated_count bs) 20 (20 + 8 * stated_count bs + 12 * stated_records bs) (stated_records bs) b.0 o.least b.1 (λ z. sym same ∙ p.3 z) in (
+      let ends = archive_end (stated_count bs) 20 (20 + 8 * stated_count bs + 12 * stated_records bs) (stated_records bs) b.0 o.least b.1 (λ z. sym first ∙ p.closes z) in (
         put_together (stated_records bs) (stated_count bs) b.0 (stated_opening o k bs) (stated_journal o k bs) (heading_stands bs t o.number k.number hm.0 hm.1)
-            (subst (λ (m : ℕ). Stands bs 12 (be4 (20 + 8 * stated_count bs) ++ be4 m)) l12 p.0) blks.0 vals.0 vals.1 blks.1 blks.2 (blks.3 ∙ ends),
+            (subst (λ (m : ℕ). Stands bs 12 (be4 (20 + 8 * stated_count bs) ++ be4 m)) l12 s) blks.0 vals.0 vals.1 blks.1 blks.2 (blks.3 ∙ ends),
         blks.2 ∙ ap (λ (h : Heading). h.jobs) (ok_same _ _ b.2),
       )
     where

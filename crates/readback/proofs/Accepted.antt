@@ -12,12 +12,12 @@ use Rattle.archive.specs.Rule.{read_archive, read_play, inspected}
 use Rattle.archive.specs.Journal.{stated_records, stated_count, stated_opening, stated_journal}
 use Rattle.archive.proofs.Fields.{bound, ok_same}
 use Rattle.archive.proofs.OneForm.{one_form}
+use Rattle.archive.proofs.Long.{values_long}
 use Rattle.readback.specs.Sound.{Orderly}
 use Rattle.readback.specs.Accepted.{SoundArchive, AcceptedExactly, AcceptedIsSound}
 use Rattle.readback.proofs.BackDown.{Down, down}
 use Rattle.readback.proofs.Back.{borne_out, sound_reads_back}
 use Rattle.readback.proofs.JobsSay.{jobs_say}
-use Rattle.archive.proofs.Long.{values_long}
 use Rattle.readback.proofs.PlaysStated.{ArchiveSays, archive_says}
 
 module _ {S R : Type 0} (o : Order S) (k : RecordKind R) (laws : Ordered o) (formed : Written k) where

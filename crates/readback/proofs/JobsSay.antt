@@ -11,19 +11,20 @@ use Rattle.law.specs.Daybook.{Look, Put, AcceptedJob}
 use Rattle.law.specs.Account.{NeverFalls}
 use Rattle.law.specs.Promises.{NeatJob, look_numbers, put_numbers}
 use Rattle.archive.specs.declared.fault.Fault.{Fault}
-use Rattle.archive.specs.declared.fault.Fault.TheVariants.{PairWrong, ValueWrong}
+use Rattle.archive.specs.declared.fault.Fault.TheVariants.{ValueWrong}
 use Rattle.archive.specs.declared.blocks.Opened.{Opened}
 use Rattle.archive.specs.Faults.{onward}
-use Rattle.archive.specs.Directory.{stated_length, pair_right, read_pair}
+use Rattle.archive.specs.Directory.{stated_length, read_pair}
 use Rattle.archive.specs.Values.{read_values}
 use Rattle.archive.specs.Names.{numbers, names_right}
 use Rattle.archive.specs.Blocks.{stamp_at, all_noted, read_block, read_blocks}
 use Rattle.archive.specs.Journal.{seen_look, stated_looks, seen_put, stated_puts, stated_job, seen_job, stated_jobs}
 use Rattle.archive.proofs.Stands.{bytes_part}
-use Rattle.archive.proofs.Fields.{guarded, bound, ok_same}
+use Rattle.archive.proofs.Fields.{bound}
+use Rattle.archive.proofs.KnownPairs.{pair_says}
+use Rattle.archive.proofs.KnownBlocks.{BlockSays, block_says}
 use Rattle.readback.proofs.BackNames.{every}
 use Rattle.readback.proofs.NamesSay.{different, names_say}
-use Rattle.readback.proofs.BlockSays.{BlockSays, block_says}
 
 module _ {S R : Type 0} (o : Order S) (f : Form R) (bs : List ℕ) where
   -- the looks and the puts that are stated have the numbers that stand there
@@ -109,8 +110,7 @@ module _ {S R : Type 0} (o : Order S) (f : Form R) (bs : List ℕ) where
   jobs_say laws t zero dir at n end low q = record { neat = tt; ticketed = tt; after = tt; never_falls = tt }
   jobs_say laws t (suc m) dir at n end low q =
       let a = bound (read_pair bs dir at (eqb m 0)) _ end q in
-      let g = guarded (pair_right bs dir at (eqb m 0)) (Ok (at + stated_length bs dir)) (PairWrong dir) a.0 a.1 in
-      let ex : at + stated_length bs dir ≡ a.0 = ok_same _ _ g.1 in
+      let ex : at + stated_length bs dir ≡ a.0 = (pair_says bs dir at a.0 (eqb m 0) a.1).ends in
       let b = bound (read_block o f bs n at (a.0 - at) low) _ end a.2 in
       let s = block_says o f bs n at (a.0 - at) low b.0 b.1 in
       let rest : List (AcceptedJob S R) = stated_jobs o f bs (dir + 8) (at + stated_length bs dir) m in

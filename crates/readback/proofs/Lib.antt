@@ -15,7 +15,6 @@ pub mod Accepted
 pub mod Tickets
 pub mod RunsSound
 pub mod PutsOver
-pub mod BlockSays
 pub mod PlaysStated
 pub mod AlikePlays
 pub mod RunsBack

@@ -9,13 +9,13 @@ use Rattle.kinds.specs.Values.{RecordKind}
 use Rattle.model.specs.Rows.{Stood}
 use Rattle.law.specs.Daybook.{AcceptedJob}
 use Rattle.law.specs.Account.{StandingAt, put_of, at_opening, after_job, played}
-use Rattle.archive.specs.declared.fault.Fault.TheVariants.{HeadingWrong, PairWrong}
+use Rattle.archive.specs.declared.fault.Fault.TheVariants.{HeadingWrong}
 use Rattle.archive.specs.declared.heading.Heading.{Heading}
 use Rattle.archive.specs.declared.blocks.Opened.{Opened}
 use Rattle.archive.specs.Faults.{onward}
 use Rattle.archive.specs.Lengths.{block_length}
 use Rattle.archive.specs.Heading.{mark_right, kinds_right, sizes_right, read_sizes, read_heading}
-use Rattle.archive.specs.Directory.{stated_length, pair_right, read_pair, read_directory}
+use Rattle.archive.specs.Directory.{stated_length, read_pair, read_directory}
 use Rattle.archive.specs.Values.{read_values, stated_values}
 use Rattle.archive.specs.Blocks.{read_block, read_blocks}
 use Rattle.archive.specs.Rule.{read_archive}
@@ -23,9 +23,10 @@ use Rattle.archive.specs.Played.{values_after, block_played, blocks_played, room
 use Rattle.archive.specs.Journal.{stated_puts, stated_job, seen_job, stated_jobs, stated_records, stated_count, stated_opening, stated_journal}
 use Rattle.archive.proofs.Long.{values_long}
 use Rattle.archive.proofs.Fields.{guarded, bound, ok_same}
+use Rattle.archive.proofs.KnownPairs.{pair_says}
+use Rattle.archive.proofs.KnownBlocks.{BlockSays, block_says}
 use Rattle.readback.specs.PlaysBack.{value_at, PlaysWhatIsStated}
 use Rattle.readback.proofs.PutsOver.{over, value_under, puts_over, after_length}
-use Rattle.readback.proofs.BlockSays.{BlockSays, pair_within, block_says}
 
 -- the values that are the values of a standing
 abbrev pub Shows : {S R : Type 0} → List R → StandingAt S R → Type 0
@@ -66,9 +67,9 @@ module _ {S R : Type 0} (o : Order S) (f : Form R) (bs : List ℕ) where
   plays zero dir at n end low q (suc m) c vs l standing h x = absurd (omega arith)
   plays (suc j) dir at n end low q (suc m) c vs l standing h x =
       let a = bound (read_pair bs dir at (eqb j 0)) _ end q in
-      let g = guarded (pair_right bs dir at (eqb j 0)) (Ok (at + stated_length bs dir)) (PairWrong dir) a.0 a.1 in
-      let ex : at + stated_length bs dir ≡ a.0 = ok_same _ _ g.1 in
-      let w : at + stated_length bs dir ≤ length bs = pair_within bs dir at (eqb j 0) g.0 in
+      let p = pair_says bs dir at a.0 (eqb j 0) a.1 in
+      let ex : at + stated_length bs dir ≡ a.0 = p.ends in
+      let w : a.0 ≤ length bs = p.within in
       let b = bound (read_block o f bs n at (a.0 - at) low) _ end a.2 in
       let s = block_says o f bs n at (a.0 - at) low b.0 b.1 in
       let rest : List (AcceptedJob S R) = stated_jobs o f bs (dir + 8) (at + stated_length bs dir) j in

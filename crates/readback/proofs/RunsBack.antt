@@ -17,11 +17,11 @@ use Rattle.archive.specs.Rule.{read_archive, read_play}
 use Rattle.archive.specs.Played.{play_leaves}
 use Rattle.archive.specs.Journal.{archive_bytes, stated_records, stated_count, stated_opening, stated_journal}
 use Rattle.archive.proofs.Fields.{bound, ok_same}
+use Rattle.archive.proofs.Long.{values_long}
 use Rattle.readback.specs.ReadsBack.{AlikeJob, ReadsBack, RunReadsBack}
 use Rattle.readback.specs.PlaysBack.{value_at, RunPlaysBack}
 use Rattle.readback.proofs.Back.{sound_reads_back}
 use Rattle.readback.proofs.RunsSound.{runs_sound, run_ends, run_opening}
-use Rattle.archive.proofs.Long.{values_long}
 use Rattle.readback.proofs.PlaysStated.{archive_says, plays_at}
 use Rattle.readback.proofs.AlikePlays.{each_length, opening_alike, plays_alike}
 

@@ -1,43 +1,27 @@
 -- The jobs that an archive states, found by the offsets in its directory.
-use Rattle.std.proofs.Common.{◌≡◌, ℕ, zero, suc, ◌+◌, ◌-◌, ◌*◌, ◌<◌, ◌≤◌, Bool, ◌&&◌, eqb, leb, List, length, get_or, take, drop, Some, None, Ok, Option, refl, sym, ap, ◌∙◌, subst, mul-zero, mul-suc, arith}
+use Rattle.std.proofs.Common.{◌≡◌, ℕ, zero, suc, ◌+◌, ◌-◌, ◌*◌, ◌<◌, ◌&&◌, eqb, leb, List, length, get_or, take, drop, Some, None, Ok, Option, refl, sym, ap, ◌∙◌, subst, mul-zero, mul-suc, arith}
 use Rattle.std.specs.Prelude.{fold}
 use Rattle.std.specs.List.{slice_get}
 use Rattle.std.specs.Option.{option_map}
-use Rattle.std.proofs.lemmas.Bool.{and_parts, leb-true, eqb-true}
 use Rattle.kinds.specs.Bytes.{number4, part}
 use Rattle.kinds.specs.Forms.{Form}
 use Rattle.kinds.specs.Stamps.{Order}
 use Rattle.kinds.specs.Values.{RecordKind}
 use Rattle.law.specs.Daybook.{AcceptedJob}
-use Rattle.archive.specs.declared.fault.Fault.TheVariants.{HeadingWrong, PairWrong}
+use Rattle.archive.specs.declared.fault.Fault.TheVariants.{HeadingWrong}
 use Rattle.archive.specs.declared.heading.Heading.{Heading}
 use Rattle.archive.specs.Heading.{mark_right, kinds_right, sizes_right, read_sizes, read_heading}
-use Rattle.archive.specs.Directory.{stated_length, pair_right, read_pair, read_directory}
+use Rattle.archive.specs.Directory.{stated_length, read_pair, read_directory}
 use Rattle.archive.specs.Values.{read_values, stated_values}
 use Rattle.archive.specs.Blocks.{stamp_at, read_block, read_blocks}
 use Rattle.archive.specs.Rule.{read_archive}
 use Rattle.archive.specs.Journal.{stated_job, seen_job, stated_jobs, stated_puts, stated_records, stated_count, stated_opening, stated_journal}
 use Rattle.archive.proofs.Fields.{guarded, bound, ok_same}
-use Rattle.archive.proofs.KnownBlocks.{block_met}
+use Rattle.archive.proofs.KnownPairs.{PairSays, pair_says}
+use Rattle.archive.proofs.KnownBlocks.{block_says}
+use Rattle.archive.proofs.Long.{values_long}
 use Rattle.reader.specs.Readable.{Readable}
 use Rattle.reader.specs.Rebuilt.{with_puts, with_job}
-use Rattle.archive.proofs.Long.{values_long}
-
--- the pair of a part: where it starts, and that it ends within the archive
-pub record PairMet (bs : List ℕ) (at from end : ℕ) : Type 0 where
-  pub starts : number4 (part bs at 4) ≡ from
-  pub ends : from + stated_length bs at ≡ end
-  pub within : end ≤ length bs
-
-pair_met : (bs : List ℕ) (at from end : ℕ) (last : Bool) → read_pair bs at from last ≡ Ok end → PairMet bs at from end
-pair_met bs at from end last q =
-    let g = guarded (pair_right bs at from last) (Ok (from + stated_length bs at)) (PairWrong at) end q in
-    let a = and_parts (leb (at + 8) (length bs)) _ g.0 in
-    let b = and_parts (eqb (number4 (part bs at 4)) from) _ a.1 in
-    let c = and_parts (leb (from + stated_length bs at) (length bs)) _ b.1 in
-    let e : from + stated_length bs at ≡ end = ok_same _ _ g.1 in
-    let P : ℕ → Type 0 = λ n. n ≤ length bs in
-    record { starts = eqb-true _ _ b.0; ends = e; within = subst P e (leb-true _ _ c.0) }
 
 -- a job in front of others
 module _ {S R : Type 0} (o : Order S) (f : Form R) (bs : List ℕ) where
@@ -64,7 +48,7 @@ module _ {S R : Type 0} (o : Order S) (f : Form R) (bs : List ℕ) where
   -- the first of the blocks, and those behind it
   pub record BlocksMet (dir at n m end : ℕ) : Type 0 where
     pub next : ℕ
-    pub pair : PairMet bs dir at next
+    pub pair : PairSays bs dir at next (eqb m 0)
     pub first : JobFirst o f bs at (stamp_at o bs at) (stated_jobs o f bs (dir + 8) (at + stated_length bs dir) m)
     pub readable : CanRead at
     pub low : S
@@ -73,9 +57,9 @@ module _ {S R : Type 0} (o : Order S) (f : Form R) (bs : List ℕ) where
   pub blocks_met : (dir at n m end : ℕ) (low : S) → read_blocks o f bs n dir at low (suc m) ≡ Ok end → BlocksMet dir at n m end
   blocks_met dir at n m end low q =
       let a = bound (read_pair bs dir at (eqb m 0)) _ end q in
-      let p = pair_met bs dir at a.0 (eqb m 0) a.1 in
+      let p = pair_says bs dir at a.0 (eqb m 0) a.1 in
       let b = bound (read_block o f bs n at (a.0 - at) low) _ end a.2 in
-      let k = block_met o f bs n at (a.0 - at) low b.0 b.1 in
+      let k = block_says o f bs n at (a.0 - at) low b.0 b.1 in
       let r : ℕ = get_or bs (at + 12) 0 in
       let P : ℕ → Type 0 = λ i. read_blocks o f bs n (dir + 8) i b.0.stamp m ≡ Ok end in
       let Seen : ℕ → Type 0 = λ i. read_values f bs i 22 r ≡ Ok tt in
@@ -85,12 +69,12 @@ module _ {S R : Type 0} (o : Order S) (f : Form R) (bs : List ℕ) where
       record {
         next = a.0;
         pair = p;
-        first = job_first o f bs at (stamp_at o bs at) k.stamp (stated_jobs o f bs (dir + 8) (at + stated_length bs dir) m) k.stands;
+        first = job_first o f bs at (stamp_at o bs at) k.stamp (stated_jobs o f bs (dir + 8) (at + stated_length bs dir) m) k.stamped;
         readable =
             record {
               front = omega (arith, p.ends, p.within, k.long);
-              looks = record { within = omega (arith, p.ends, p.within, k.long); noted = k.noted; valued = subst Seen x k.seen };
-              puts = record { within = omega (arith, p.ends, p.within, k.long); valued = subst Put y k.put };
+              looks = record { within = omega (arith, p.ends, p.within, k.long); noted = k.noted; valued = subst Seen x k.look_values };
+              puts = record { within = omega (arith, p.ends, p.within, k.long); valued = subst Put y k.put_values };
             };
         low = b.0.stamp;
         rest = subst P (sym p.ends) b.2;
