@@ -11,5 +11,6 @@ pub mod KnownPairs
 pub mod KnownBlocks
 pub mod Long
 pub mod ForthBlocks
+pub mod KnownArchive
 pub mod OneForm
 pub mod RowLaws

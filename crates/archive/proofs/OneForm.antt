@@ -1,5 +1,5 @@
 -- One form only: an accepted archive is what is written for what it states.
-use Rattle.std.proofs.Common.{◌≡◌, ℕ, zero, suc, ◌+◌, ◌-◌, ◌*◌, ◌≤◌, true, ◌&&◌, eqb, leb, List, [], ◌∷◌, ◌++◌, length, drop, Ok, sym, refl, ap, ◌∙◌, subst, mul-suc, arith}
+use Rattle.std.proofs.Common.{◌≡◌, ℕ, zero, suc, ◌+◌, ◌-◌, ◌*◌, ◌≤◌, true, eqb, List, [], ◌∷◌, ◌++◌, length, Ok, sym, refl, ap, ◌∙◌, subst, mul-suc, arith}
 use Rattle.std.specs.List.{flat_map}
 use Rattle.std.proofs.lemmas.List.{length-append, length-map}
 use Rattle.std.proofs.lemmas.Bool.{eqb-true}
@@ -8,16 +8,16 @@ use Rattle.kinds.specs.Values.{RecordKind, Written}
 use Rattle.kinds.specs.Bytes.{be4, Bytes}
 use Rattle.kinds.specs.Forms.{Formed}
 use Rattle.law.specs.Daybook.{AcceptedJob}
-use Rattle.archive.specs.declared.fault.Fault.TheVariants.{HeadingWrong, PairWrong}
+use Rattle.archive.specs.declared.fault.Fault.TheVariants.{PairWrong}
 use Rattle.archive.specs.declared.heading.Heading.{Heading}
-use Rattle.archive.specs.Faults.{onward}
-use Rattle.archive.specs.Heading.{heading_bytes, mark_right, kinds_right, sizes_right, read_sizes, read_heading}
-use Rattle.archive.specs.Directory.{pairs_bytes, stated_length, read_pair, read_pairs, read_directory}
-use Rattle.archive.specs.Values.{values_bytes, read_values}
+use Rattle.archive.specs.Heading.{heading_bytes}
+use Rattle.archive.specs.Directory.{pairs_bytes, stated_length, read_pair, read_pairs}
+use Rattle.archive.specs.Values.{values_bytes}
 use Rattle.archive.specs.Blocks.{read_block, read_blocks}
-use Rattle.archive.specs.Rule.{read_archive, read_play}
+use Rattle.archive.specs.Rule.{read_archive}
 use Rattle.archive.specs.Journal.{block_bytes, block_lengths, archive_bytes, stated_records, stated_count, stated_opening, stated_journal}
 use Rattle.archive.specs.Theorems.{OneForm}
+use Rattle.archive.proofs.KnownArchive.{archive_says, inspected_says}
 use Rattle.archive.proofs.Stands.{Stands, join, all_of}
 use Rattle.archive.proofs.Fields.{guarded, bound, ok_same}
 use Rattle.archive.proofs.KnownPairs.{pair_says}
@@ -78,46 +78,23 @@ module _ {S R : Type 0} (o : Order S) (k : RecordKind R) (laws : Formed 8 o.form
       total : (b x l y v w n j : ℕ) → x ≡ l + y → y ≡ v + w → l ≡ 8 + 8 * j → v ≡ 12 * n → 20 + 8 * j + 12 * n + w ≡ b → b ≡ suc (suc (suc (suc (suc (suc (suc (suc (suc (suc (suc (suc x)))))))))))
       total b x l y v w n j p q r s e = omega arith
 
-  -- what the heading that was read says
-  heading_met : (h : Heading) → read_heading o.number k.number bs ≡ Ok h
-      → ((leb 6 (length bs) && (mark_right bs && kinds_right o.number k.number bs)) ≡ true) × (sizes_right (drop 6 bs) ≡ true) × (record { records = stated_records bs; jobs = stated_count bs } ≡ h)
-  heading_met h q =
-      let a = guarded (leb 6 (length bs) && (mark_right bs && kinds_right o.number k.number bs)) (read_sizes (drop 6 bs)) HeadingWrong h q in
-      let b = guarded (sizes_right (drop 6 bs)) (Ok (record { records = stated_records bs; jobs = stated_count bs })) HeadingWrong h a.1 in
-      (a.0, b.0, ok_same _ _ b.1)
-
-  -- what was read behind the heading
-  abbrev Rest : Heading → Heading → Type 0
-  Rest h x =
-      onward (read_directory bs h.records h.jobs) (λ _.
-      onward (read_values k.form bs (20 + 8 * h.jobs) 12 h.records) (λ _.
-      onward (read_blocks o k.form bs h.records 20 (20 + 8 * h.jobs + 12 * h.records) o.least h.jobs) (λ _.
-      Ok h))) ≡ Ok x
-
   pub archive_met : (x : Heading) → read_archive o k bs ≡ Ok x
       → (bs ≡ archive_bytes o k (stated_opening o k bs) (stated_journal o k bs)) × (length (stated_journal o k bs) ≡ x.jobs)
   archive_met x q =
-      let n : ℕ = stated_records bs in
-      let j : ℕ = stated_count bs in
-      let hd = bound (read_heading o.number k.number bs) _ x q in
-      let hm = heading_met hd.0 hd.1 in
-      let r : Rest (record { records = stated_records bs; jobs = stated_count bs }) x = subst (λ (h : Heading). Rest h x) (sym hm.2) hd.2 in
-      let d = bound (read_directory bs (stated_records bs) (stated_count bs)) _ x r in
-      let v = bound (read_values k.form bs (20 + 8 * stated_count bs) 12 (stated_records bs)) _ x d.2 in
-      let b = bound (read_blocks o k.form bs (stated_records bs) 20 (20 + 8 * stated_count bs + 12 * stated_records bs) o.least (stated_count bs)) _ x v.2 in
-      let a = bound (read_pair bs 12 (20 + 8 * stated_count bs) (eqb (stated_count bs) 0)) _ d.0 d.1 in
+      let z = archive_says o k bs x q in
+      let a = bound (read_pair bs 12 (20 + 8 * stated_count bs) (eqb (stated_count bs) 0)) _ z.last z.directory in
       let p = pair_says bs 12 (20 + 8 * stated_count bs) a.0 (eqb (stated_count bs) 0) a.1 in
-      let c = guarded (eqb a.0 (20 + 8 * stated_count bs + 12 * stated_records bs)) (read_pairs bs 20 a.0 (stated_count bs)) (PairWrong 12) d.0 a.2 in
+      let c = guarded (eqb a.0 (20 + 8 * stated_count bs + 12 * stated_records bs)) (read_pairs bs 20 a.0 (stated_count bs)) (PairWrong 12) z.last a.2 in
       let s = pair_stands bs t 12 (20 + 8 * stated_count bs) a.0 (eqb (stated_count bs) 0) p in
       let first : a.0 ≡ 20 + 8 * stated_count bs + 12 * stated_records bs = eqb-true _ _ c.0 in
       let l12 : stated_length bs 12 ≡ 12 * stated_records bs = cut (20 + 8 * stated_count bs) _ _ (p.ends ∙ first) in
       let fits : 20 + 8 * stated_count bs + 12 * stated_records bs ≤ length bs = subst (λ (m : ℕ). m ≤ length bs) first p.within in
-      let vals = values_stand bs t k.form formed (stated_records bs) (20 + 8 * stated_count bs) fits v.1 in
-      let blks = blocks_stand o k.form laws formed bs t (stated_count bs) 20 (20 + 8 * stated_count bs + 12 * stated_records bs) (stated_records bs) b.0 o.least b.1 in
-      let ends = archive_end (stated_count bs) 20 (20 + 8 * stated_count bs + 12 * stated_records bs) (stated_records bs) b.0 o.least b.1 (λ z. sym first ∙ p.closes z) in (
-        put_together (stated_records bs) (stated_count bs) b.0 (stated_opening o k bs) (stated_journal o k bs) (heading_stands bs t o.number k.number hm.0 hm.1)
+      let vals = values_stand bs t k.form formed (stated_records bs) (20 + 8 * stated_count bs) fits z.values in
+      let blks = blocks_stand o k.form laws formed bs t (stated_count bs) 20 (20 + 8 * stated_count bs + 12 * stated_records bs) (stated_records bs) z.end o.least z.blocks in
+      let ends = archive_end (stated_count bs) 20 (20 + 8 * stated_count bs + 12 * stated_records bs) (stated_records bs) z.end o.least z.blocks (λ l. sym first ∙ p.closes l) in (
+        put_together (stated_records bs) (stated_count bs) z.end (stated_opening o k bs) (stated_journal o k bs) (heading_stands bs t o.number k.number z.marked z.sizes)
             (subst (λ (m : ℕ). Stands bs 12 (be4 (20 + 8 * stated_count bs) ++ be4 m)) l12 s) blks.0 vals.0 vals.1 blks.1 blks.2 (blks.3 ∙ ends),
-        blks.2 ∙ ap (λ (h : Heading). h.jobs) (ok_same _ _ b.2),
+        blks.2 ∙ ap (λ (h : Heading). h.jobs) z.heading,
       )
     where
       cut : (a x y : ℕ) → a + x ≡ a + y → x ≡ y
@@ -125,7 +102,6 @@ module _ {S R : Type 0} (o : Order S) (k : RecordKind R) (laws : Formed 8 o.form
 
 pub one_form : {S R : Type 0} (o : Order S) (k : RecordKind R) → Ordered o → Written k → OneForm o k
 one_form o k laws formed bs j t q =
-    let a = bound (read_archive o k bs) (λ h. onward (read_play o bs h.records h.jobs) (λ _. Ok h.jobs)) j q in
-    let b = bound (read_play o bs a.0.records a.0.jobs) (λ _. Ok a.0.jobs) j a.2 in
-    let m = archive_met o k laws.formed formed bs t a.0 a.1 in
-    (m.0, m.1 ∙ ok_same _ _ b.2)
+    let a = inspected_says o k bs j q in
+    let m = archive_met o k laws.formed formed bs t a.heading a.read in
+    (m.0, m.1 ∙ a.count)

@@ -7,10 +7,9 @@ use Rattle.kinds.specs.Values.{RecordKind, Written}
 use Rattle.law.specs.Daybook.{AcceptedJob}
 use Rattle.law.specs.Promises.{NeatJob}
 use Rattle.archive.specs.declared.heading.Heading.{Heading}
-use Rattle.archive.specs.Faults.{onward}
-use Rattle.archive.specs.Rule.{read_archive, read_play, inspected}
+use Rattle.archive.specs.Rule.{read_play, inspected}
 use Rattle.archive.specs.Journal.{stated_records, stated_count, stated_opening, stated_journal}
-use Rattle.archive.proofs.Fields.{bound, ok_same}
+use Rattle.archive.proofs.KnownArchive.{ArchiveSays, archive_says, stated_within, opening_long, inspected_says}
 use Rattle.archive.proofs.OneForm.{one_form}
 use Rattle.archive.proofs.Long.{values_long}
 use Rattle.readback.specs.Sound.{Orderly}
@@ -18,7 +17,6 @@ use Rattle.readback.specs.Accepted.{SoundArchive, AcceptedExactly, AcceptedIsSou
 use Rattle.readback.proofs.BackDown.{Down, down}
 use Rattle.readback.proofs.Back.{borne_out, sound_reads_back}
 use Rattle.readback.proofs.JobsSay.{jobs_say}
-use Rattle.readback.proofs.PlaysStated.{ArchiveSays, archive_says}
 
 module _ {S R : Type 0} (o : Order S) (k : RecordKind R) (laws : Ordered o) (formed : Written k) where
   -- what was read without the play is orderly
@@ -26,9 +24,10 @@ module _ {S R : Type 0} (o : Order S) (k : RecordKind R) (laws : Ordered o) (for
   orderly_stated bs h t z l =
       let v = values_long k.form bs (stated_records bs) (20 + 8 * stated_count bs) z.values in
       let j = jobs_say o k.form bs laws t (stated_count bs) 20 (20 + 8 * stated_count bs + 12 * stated_records bs) (stated_records bs) z.end o.least z.blocks in
-      let a = z.some_records in
-      let b = z.few_records in
-      let c = z.few_jobs in
+      let w = stated_within o k bs h z in
+      let a = w.some_records in
+      let b = w.few_records in
+      let c = w.few_jobs in
       record {
         some_records = omega arith;
         few_records = omega arith;
@@ -43,14 +42,14 @@ module _ {S R : Type 0} (o : Order S) (k : RecordKind R) (laws : Ordered o) (for
       let vs : List R = stated_opening o k bs in
       let js : List (AcceptedJob S R) = stated_journal o k bs in
       let form = one_form o k laws formed bs j t q in
-      let a = bound (read_archive o k bs) (λ h. onward (read_play o bs h.records h.jobs) (λ _. Ok h.jobs)) j q in
-      let b = bound (read_play o bs a.0.records a.0.jobs) (λ _. Ok a.0.jobs) j a.2 in
-      let z = archive_says o k bs a.0 a.1 in
-      let lj : length js ≡ a.0.jobs = form.1 ∙ sym (ok_same _ _ b.2) in
-      let lv : length vs ≡ a.0.records = values_long k.form bs (stated_records bs) (20 + 8 * stated_count bs) z.values ∙ ap (λ (h : Heading). h.records) z.heading in
-      let orderly = orderly_stated bs a.0 t z (lj ∙ sym (ap (λ (h : Heading). h.jobs) z.heading)) in
+      let a = inspected_says o k bs j q in
+      let h : Heading = a.heading in
+      let z = archive_says o k bs h a.read in
+      let lj : length js ≡ h.jobs = form.1 ∙ sym a.count in
+      let lv : length vs ≡ h.records = opening_long o k bs h a.read in
+      let orderly = orderly_stated bs h t z (lj ∙ sym (ap (λ (h : Heading). h.jobs) z.heading)) in
       let d : Down o k bs vs js = subst (λ (xs : List ℕ). Down o k xs vs js) (sym form.0) (down o k formed vs js orderly) in
-      let played : read_play o bs (length vs) (length js) ≡ Ok tt = ap (λ n. read_play o bs n (length js)) lv ∙ ap (read_play o bs a.0.records) lj ∙ b.1 in
+      let played : read_play o bs (length vs) (length js) ≡ Ok tt = ap (λ n. read_play o bs n (length js)) lv ∙ ap (read_play o bs h.records) lj ∙ a.played in
       (record { orderly = orderly; borne_out = borne_out o k bs vs js laws formed orderly d played }, form.0, form.1)
 
   laid_accepted : (bs : List ℕ) (j : ℕ) → SoundArchive o k bs j → inspected o k bs ≡ Ok j

@@ -1,29 +1,27 @@
 -- The values that play leaves are those of the play of the first jobs that the archive states.
-use Rattle.std.proofs.Common.{◌≡◌, ℕ, zero, suc, ◌+◌, ◌-◌, ◌*◌, ◌≤◌, Bool, true, false, cond, ◌&&◌, eqb, leb, List, length, get_or, take, drop, Some, None, Ok, Option, sym, refl, ap, ◌∙◌, subst, arith}
+use Rattle.std.proofs.Common.{◌≡◌, ℕ, zero, suc, ◌+◌, ◌-◌, ◌*◌, ◌≤◌, Bool, true, false, cond, eqb, leb, List, length, get_or, take, Some, None, Ok, Option, sym, refl, ap, ◌∙◌, subst, arith}
 use Rattle.std.specs.Option.{option_map}
 use Rattle.std.specs.List.{slice_get}
-use Rattle.std.proofs.lemmas.Bool.{and_from, and_parts, eq-eqb, le-leb, leb-true}
+use Rattle.std.proofs.lemmas.Bool.{and_from, eq-eqb, le-leb}
 use Rattle.kinds.specs.Forms.{Form}
 use Rattle.kinds.specs.Stamps.{Order}
 use Rattle.kinds.specs.Values.{RecordKind}
 use Rattle.model.specs.Rows.{Stood}
 use Rattle.law.specs.Daybook.{AcceptedJob}
 use Rattle.law.specs.Account.{StandingAt, put_of, at_opening, after_job, played}
-use Rattle.archive.specs.declared.fault.Fault.TheVariants.{HeadingWrong}
 use Rattle.archive.specs.declared.heading.Heading.{Heading}
 use Rattle.archive.specs.declared.blocks.Opened.{Opened}
-use Rattle.archive.specs.Faults.{onward}
 use Rattle.archive.specs.Lengths.{block_length}
-use Rattle.archive.specs.Heading.{mark_right, kinds_right, sizes_right, read_sizes, read_heading}
-use Rattle.archive.specs.Directory.{stated_length, read_pair, read_directory}
-use Rattle.archive.specs.Values.{read_values, stated_values}
+use Rattle.archive.specs.Directory.{stated_length, read_pair}
+use Rattle.archive.specs.Values.{stated_values}
 use Rattle.archive.specs.Blocks.{read_block, read_blocks}
 use Rattle.archive.specs.Rule.{read_archive}
 use Rattle.archive.specs.Played.{values_after, block_played, blocks_played, room_right, play_leaves}
 use Rattle.archive.specs.Journal.{stated_puts, stated_job, seen_job, stated_jobs, stated_records, stated_count, stated_opening, stated_journal}
 use Rattle.archive.proofs.Long.{values_long}
-use Rattle.archive.proofs.Fields.{guarded, bound, ok_same}
+use Rattle.archive.proofs.Fields.{bound}
 use Rattle.archive.proofs.KnownPairs.{pair_says}
+use Rattle.archive.proofs.KnownArchive.{archive_says}
 use Rattle.archive.proofs.KnownBlocks.{BlockSays, block_says}
 use Rattle.readback.specs.PlaysBack.{value_at, PlaysWhatIsStated}
 use Rattle.readback.proofs.PutsOver.{over, value_under, puts_over, after_length}
@@ -78,55 +76,10 @@ module _ {S R : Type 0} (o : Order S) (f : Form R) (bs : List ℕ) where
       ∙ ap (λ u. value_at (played standing (take (suc m) (seen_job o f bs at u rest))) x) (sym s.stamped)
 
 module _ {S R : Type 0} (o : Order S) (k : RecordKind R) (bs : List ℕ) where
-  -- what the heading states, the opening values and the blocks of an archive that was read
-  pub record ArchiveSays (h : Heading) : Type 0 where
-    pub heading : record { records = stated_records bs; jobs = stated_count bs } ≡ h
-    pub some_records : 1 ≤ stated_records bs
-    pub few_records : stated_records bs ≤ 1024
-    pub few_jobs : stated_count bs ≤ 4096
-    pub values : read_values k.form bs (20 + 8 * stated_count bs) 12 (stated_records bs) ≡ Ok tt
-    pub end : ℕ
-    pub blocks : read_blocks o k.form bs (stated_records bs) 20 (20 + 8 * stated_count bs + 12 * stated_records bs) o.least (stated_count bs) ≡ Ok end
-
-  heading_says : (h : Heading) → read_heading o.number k.number bs ≡ Ok h → (sizes_right (drop 6 bs) ≡ true) × (record { records = stated_records bs; jobs = stated_count bs } ≡ h)
-  heading_says h q =
-      let a = guarded (leb 6 (length bs) && (mark_right bs && kinds_right o.number k.number bs)) (read_sizes (drop 6 bs)) HeadingWrong h q in
-      let b = guarded (sizes_right (drop 6 bs)) (Ok (record { records = stated_records bs; jobs = stated_count bs })) HeadingWrong h a.1 in
-      (b.0, ok_same _ _ b.1)
-
-  -- what was read behind the heading
-  abbrev Rest : Heading → Heading → Type 0
-  Rest h x =
-      onward (read_directory bs h.records h.jobs) (λ _.
-      onward (read_values k.form bs (20 + 8 * h.jobs) 12 h.records) (λ _.
-      onward (read_blocks o k.form bs h.records 20 (20 + 8 * h.jobs + 12 * h.records) o.least h.jobs) (λ _.
-      Ok h))) ≡ Ok x
-
-  pub archive_says : (h : Heading) → read_archive o k bs ≡ Ok h → ArchiveSays h
-  archive_says h q =
-      let hd = bound (read_heading o.number k.number bs) _ h q in
-      let hs = heading_says hd.0 hd.1 in
-      let s0 = and_parts (leb 6 (length (drop 6 bs))) _ hs.0 in
-      let s1 = and_parts (leb 1 (stated_records bs)) _ s0.1 in
-      let s2 = and_parts (leb (stated_records bs) 1024) (leb (stated_count bs) 4096) s1.1 in
-      let r : Rest (record { records = stated_records bs; jobs = stated_count bs }) h = subst (λ (z : Heading). Rest z h) (sym hs.1) hd.2 in
-      let d = bound (read_directory bs (stated_records bs) (stated_count bs)) _ h r in
-      let v = bound (read_values k.form bs (20 + 8 * stated_count bs) 12 (stated_records bs)) _ h d.2 in
-      let b = bound (read_blocks o k.form bs (stated_records bs) 20 (20 + 8 * stated_count bs + 12 * stated_records bs) o.least (stated_count bs)) _ h v.2 in
-      record {
-        heading = ok_same _ _ b.2;
-        some_records = leb-true _ _ s1.0;
-        few_records = leb-true _ _ s2.0;
-        few_jobs = leb-true _ _ s2.1;
-        values = v.1;
-        end = b.0;
-        blocks = b.1;
-      }
-
   pub plays_at : (h : Heading) (space : List R) (m : ℕ) → read_archive o k bs ≡ Ok h → length space ≡ h.records → m ≤ h.jobs
       → Shows (play_leaves k.form bs (read_archive o k bs) space m) (played (at_opening o (stated_opening o k bs)) (take m (stated_journal o k bs)))
   plays_at h space m q l c x =
-      let z = archive_says h q in
+      let z = archive_says o k bs h q in
       let n : ℕ = stated_records bs in
       let j : ℕ = stated_count bs in
       let stated : Heading = record { records = stated_records bs; jobs = stated_count bs } in

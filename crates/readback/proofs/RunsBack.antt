@@ -1,5 +1,5 @@
 -- What is laid down of a run reads back and plays back.
-use Rattle.std.proofs.Common.{◌≡◌, ℕ, ◌+◌, ◌*◌, List, length, take, Some, None, Ok, Option, sym, refl, ap, ◌∙◌, subst, arith}
+use Rattle.std.proofs.Common.{◌≡◌, ℕ, List, length, take, Some, None, Option, sym, refl, ap, ◌∙◌, subst, arith}
 use Rattle.std.specs.Option.{option_map}
 use Rattle.std.specs.List.{slice_get}
 use Rattle.std.proofs.lemmas.List.{take_all}
@@ -11,18 +11,15 @@ use Rattle.model.specs.Rows.{Stood, stood}
 use Rattle.registrar.specs.Registry.{Registry}
 use Rattle.law.specs.Daybook.{AcceptedJob, journal_of}
 use Rattle.law.specs.Account.{at_opening, played}
-use Rattle.archive.specs.declared.heading.Heading.{Heading}
-use Rattle.archive.specs.Faults.{onward}
-use Rattle.archive.specs.Rule.{read_archive, read_play}
+use Rattle.archive.specs.Rule.{read_archive}
 use Rattle.archive.specs.Played.{play_leaves}
-use Rattle.archive.specs.Journal.{archive_bytes, stated_records, stated_count, stated_opening, stated_journal}
-use Rattle.archive.proofs.Fields.{bound, ok_same}
-use Rattle.archive.proofs.Long.{values_long}
+use Rattle.archive.specs.Journal.{archive_bytes, stated_opening, stated_journal}
+use Rattle.archive.proofs.KnownArchive.{opening_long, inspected_says}
 use Rattle.readback.specs.ReadsBack.{AlikeJob, ReadsBack, RunReadsBack}
 use Rattle.readback.specs.PlaysBack.{value_at, RunPlaysBack}
 use Rattle.readback.proofs.Back.{sound_reads_back}
 use Rattle.readback.proofs.RunsSound.{runs_sound, run_ends, run_opening}
-use Rattle.readback.proofs.PlaysStated.{archive_says, plays_at}
+use Rattle.readback.proofs.PlaysStated.{plays_at}
 use Rattle.readback.proofs.AlikePlays.{each_length, opening_alike, plays_alike}
 
 -- a row's value in its written form
@@ -44,17 +41,14 @@ module _ {S R : Type 0} (k : Kind S) (r : RecordKind R) (g : Registry S R) where
       let m : ℕ = length (journal_of g) in
       let vs : List R = stated_opening k.order r laid_down in
       let js : List (AcceptedJob S R) = stated_journal k.order r laid_down in
-      let a = bound (read_archive k.order r laid_down) (λ h. onward (read_play k.order laid_down h.records h.jobs) (λ _. Ok h.jobs)) m back.accepted in
-      let b = bound (read_play k.order laid_down a.0.records a.0.jobs) (λ _. Ok a.0.jobs) m a.2 in
-      let jobs : a.0.jobs ≡ m = ok_same _ _ b.2 in
-      let says = archive_says k.order r laid_down a.0 a.1 in
-      let lv : length vs ≡ stated_records laid_down = values_long r.form laid_down (stated_records laid_down) (20 + 8 * stated_count laid_down) says.values in
+      let a = inspected_says k.order r laid_down m back.accepted in
+      let jobs : a.heading.jobs ≡ m = a.count in
+      let lv : length vs ≡ a.heading.records = opening_long k.order r laid_down a.heading a.read in
       let lo : length vs ≡ length g.opening = each_length (Alike r.form) vs g.opening back.opening in
       let lj : length js ≡ m = each_length (AlikeJob k.order r.form) js (journal_of g) back.journal in
-      let n : stated_records laid_down ≡ a.0.records = ap (λ (h : Heading). h.records) says.heading in
       let all : take m js ≡ js = take_all m js (omega arith) in
       ap (option_map r.form.written)
-      (plays_at k.order r laid_down a.0 space m a.1 (l ∙ sym size ∙ sym lo ∙ lv ∙ n) (omega arith) x ∙ ap (λ (z : List (AcceptedJob S R)). value_at (played (at_opening k.order vs) z) x) all)
+      (plays_at k.order r laid_down a.heading space m a.read (l ∙ sym size ∙ sym lo ∙ lv) (omega arith) x ∙ ap (λ (z : List (AcceptedJob S R)). value_at (played (at_opening k.order vs) z) x) all)
       ∙ plays_alike k.order r.form js (journal_of g) back.journal (at_opening k.order vs) (at_opening k.order g.opening) (opening_alike k.order r.form vs g.opening back.opening) x
       ∙ ap (λ (w : Option (Stood S R)). option_map r.form.written (option_map (λ (w : Stood S R). w.value) w)) (ends x)
       ∙ row_written r.form (slice_get g.rows x)

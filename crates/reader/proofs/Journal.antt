@@ -1,5 +1,5 @@
 -- The jobs that an archive states, found by the offsets in its directory.
-use Rattle.std.proofs.Common.{◌≡◌, ℕ, zero, suc, ◌+◌, ◌-◌, ◌*◌, ◌<◌, ◌&&◌, eqb, leb, List, length, get_or, take, drop, Some, None, Ok, Option, refl, sym, ap, ◌∙◌, subst, mul-zero, mul-suc, arith}
+use Rattle.std.proofs.Common.{◌≡◌, ℕ, zero, suc, ◌+◌, ◌-◌, ◌*◌, ◌<◌, eqb, List, length, get_or, take, Some, None, Ok, Option, refl, sym, ap, ◌∙◌, subst, mul-zero, mul-suc, arith}
 use Rattle.std.specs.Prelude.{fold}
 use Rattle.std.specs.List.{slice_get}
 use Rattle.std.specs.Option.{option_map}
@@ -8,18 +8,16 @@ use Rattle.kinds.specs.Forms.{Form}
 use Rattle.kinds.specs.Stamps.{Order}
 use Rattle.kinds.specs.Values.{RecordKind}
 use Rattle.law.specs.Daybook.{AcceptedJob}
-use Rattle.archive.specs.declared.fault.Fault.TheVariants.{HeadingWrong}
 use Rattle.archive.specs.declared.heading.Heading.{Heading}
-use Rattle.archive.specs.Heading.{mark_right, kinds_right, sizes_right, read_sizes, read_heading}
-use Rattle.archive.specs.Directory.{stated_length, read_pair, read_directory}
+use Rattle.archive.specs.Directory.{stated_length, read_pair}
 use Rattle.archive.specs.Values.{read_values, stated_values}
 use Rattle.archive.specs.Blocks.{stamp_at, read_block, read_blocks}
 use Rattle.archive.specs.Rule.{read_archive}
 use Rattle.archive.specs.Journal.{stated_job, seen_job, stated_jobs, stated_puts, stated_records, stated_count, stated_opening, stated_journal}
-use Rattle.archive.proofs.Fields.{guarded, bound, ok_same}
+use Rattle.archive.proofs.Fields.{bound}
 use Rattle.archive.proofs.KnownPairs.{PairSays, pair_says}
+use Rattle.archive.proofs.KnownArchive.{archive_says}
 use Rattle.archive.proofs.KnownBlocks.{block_says}
-use Rattle.archive.proofs.Long.{values_long}
 use Rattle.reader.specs.Readable.{Readable}
 use Rattle.reader.specs.Rebuilt.{with_puts, with_job}
 
@@ -102,49 +100,26 @@ module _ {S R : Type 0} (o : Order S) (f : Form R) (bs : List ℕ) where
       subst P e (record { readable = t.readable; found_is = b.first.behind k ∙ t.found_is })
 
 module _ {S R : Type 0} (o : Order S) (k : RecordKind R) (bs : List ℕ) where
-  -- what is known of an archive that was read
-  pub record ArchiveMet (h : Heading) : Type 0 where
-    pub headed : record { records = stated_records bs; jobs = stated_count bs } ≡ h
-    pub values : read_values k.form bs (20 + 8 * h.jobs) 12 h.records ≡ Ok tt
-    pub end : ℕ
-    pub blocks : read_blocks o k.form bs h.records 20 (20 + 8 * h.jobs + 12 * h.records) o.least h.jobs ≡ Ok end
-
-  pub archive_met : (h : Heading) → read_archive o k bs ≡ Ok h → ArchiveMet h
-  archive_met h q =
-      let a = bound (read_heading o.number k.number bs) _ h q in
-      let b = guarded (leb 6 (length bs) && (mark_right bs && kinds_right o.number k.number bs)) (read_sizes (drop 6 bs)) HeadingWrong a.0 a.1 in
-      let c = guarded (sizes_right (drop 6 bs)) (Ok (record { records = stated_records bs; jobs = stated_count bs })) HeadingWrong a.0 b.1 in
-      let d = bound (read_directory bs a.0.records a.0.jobs) _ h a.2 in
-      let v = bound (read_values k.form bs (20 + 8 * a.0.jobs) 12 a.0.records) _ h d.2 in
-      let w = bound (read_blocks o k.form bs a.0.records 20 (20 + 8 * a.0.jobs + 12 * a.0.records) o.least a.0.jobs) _ h v.2 in
-      let P : Heading → Type 0 = λ x. ArchiveMet x in
-      subst P (ok_same _ _ w.2) (record { headed = ok_same _ _ c.1; values = v.1; end = w.0; blocks = w.1 })
-
+  -- the opening values, by the numbers of the heading
   pub opening_is : (h : Heading) → read_archive o k bs ≡ Ok h → stated_opening o k bs ≡ stated_values k.form bs (20 + 8 * h.jobs) 12 h.records
   opening_is h q =
       let F : Heading → List R = λ x. stated_values k.form bs (20 + 8 * x.jobs) 12 x.records in
-      ap F (archive_met h q).headed
+      ap F (archive_says o k bs h q).heading
 
-  -- as many opening values as records, and as many jobs as the heading says
-  pub opening_long : (h : Heading) → read_archive o k bs ≡ Ok h → length (stated_opening o k bs) ≡ h.records
-  opening_long h q =
-      let m = archive_met h q in
-      ap length (opening_is h q) ∙ values_long k.form bs h.records (20 + 8 * h.jobs) m.values
+  pub opening_read : (h : Heading) → read_archive o k bs ≡ Ok h → read_values k.form bs (20 + 8 * h.jobs) 12 h.records ≡ Ok tt
+  opening_read h q =
+      let z = archive_says o k bs h q in
+      subst (λ (x : Heading). read_values k.form bs (20 + 8 * x.jobs) 12 x.records ≡ Ok tt) z.heading z.values
 
-  abbrev jobs_in : Heading → List (AcceptedJob S R)
-  jobs_in x = stated_jobs o k.form bs 20 (20 + 8 * x.jobs + 12 * x.records) x.jobs
-
-  pub journal_is : (h : Heading) → read_archive o k bs ≡ Ok h → stated_journal o k bs ≡ jobs_in h
-  journal_is h q = ap jobs_in (archive_met h q).headed
-
+  -- as many jobs as the heading says
   pub journal_long : (h : Heading) → read_archive o k bs ≡ Ok h → length (stated_journal o k bs) ≡ h.jobs
   journal_long h q =
-      let m = archive_met h q in
-      ap length (journal_is h q) ∙ jobs_long o k.form bs h.jobs 20 (20 + 8 * h.jobs + 12 * h.records) h.records m.end o.least m.blocks
+      let z = archive_says o k bs h q in
+      jobs_long o k.form bs (stated_count bs) 20 (20 + 8 * stated_count bs + 12 * stated_records bs) (stated_records bs) z.end o.least z.blocks ∙ ap (λ (x : Heading). x.jobs) z.heading
 
   -- the job of a number stands where its pair says
   pub job_found : (h : Heading) (i : ℕ) → read_archive o k bs ≡ Ok h → i < h.jobs → JobTold o k.form bs (number4 (part bs (20 + 8 * i) 4)) (slice_get (stated_journal o k bs) i)
   job_found h i q l =
-      let m = archive_met h q in
-      let P : Heading → Type 0 = λ x. JobTold o k.form bs (number4 (part bs (20 + 8 * i) 4)) (slice_get (jobs_in x) i) in
-      subst P (sym m.headed) (job_told o k.form bs h.jobs 20 (20 + 8 * h.jobs + 12 * h.records) h.records m.end i o.least l m.blocks)
+      let z = archive_says o k bs h q in
+      job_told o k.form bs (stated_count bs) 20 (20 + 8 * stated_count bs + 12 * stated_records bs) (stated_records bs) z.end i o.least
+      (subst (λ (x : Heading). i < x.jobs) (sym z.heading) l) z.blocks

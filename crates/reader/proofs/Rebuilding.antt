@@ -17,11 +17,12 @@ use Rattle.archive.specs.Directory.{stated_length}
 use Rattle.archive.specs.Values.{read_values, stated_values}
 use Rattle.archive.specs.Blocks.{read_blocks}
 use Rattle.archive.specs.Rule.{read_archive}
-use Rattle.archive.specs.Journal.{seen_put, stated_puts, stated_jobs, stated_opening}
+use Rattle.archive.specs.Journal.{seen_put, stated_puts, stated_jobs, stated_records, stated_count, stated_opening}
 use Rattle.archive.specs.Played.{value_in, values_after, block_played, blocks_played, room_right, play_leaves}
+use Rattle.archive.proofs.KnownArchive.{archive_says, opening_long}
 use Rattle.reader.specs.Stated.{stated}
 use Rattle.reader.specs.Rebuilt.{with_puts, with_job, rebuilt, rebuild_leaves}
-use Rattle.reader.proofs.Journal.{CanRead, blocks_met, archive_met, opening_is, journal_is, opening_long, journal_long}
+use Rattle.reader.proofs.Journal.{CanRead, blocks_met, journal_long}
 
 module _ {S R : Type 0} (o : Order S) (f : Form R) (bs : List ℕ) where
   put_played : (x place : ℕ) (v : Option R) (rest : Result (Unit {0}) Fault) (vs : List R) (ps : List (Put R)) → onward (ok_or v (ValueWrong place)) (λ _. rest) ≡ Ok tt
@@ -70,10 +71,11 @@ module _ {S R : Type 0} (o : Order S) (k : RecordKind R) (bs : List ℕ) where
     where
       same : m ≤ h.jobs → blocks_played k.form bs 20 (20 + 8 * h.jobs + 12 * h.records) (stated_values k.form bs (20 + 8 * h.jobs) 12 h.records) m ≡ rebuilt (stated o k bs) m
       same l =
-          let a = archive_met o k bs h q in
-          ap (λ vs. blocks_played k.form bs 20 (20 + 8 * h.jobs + 12 * h.records) vs m) (sym (opening_is o k bs h q))
-          ∙ blocks_rebuilt o k.form bs h.jobs 20 (20 + 8 * h.jobs + 12 * h.records) h.records a.end m o.least (stated_opening o k bs) l a.blocks
-          ∙ ap (λ js. fold with_job (stated_opening o k bs) (take m js)) (sym (journal_is o k bs h q))
+          let a = archive_says o k bs h q in
+          let Played : Heading → List R = λ x. blocks_played k.form bs 20 (20 + 8 * x.jobs + 12 * x.records) (stated_values k.form bs (20 + 8 * x.jobs) 12 x.records) m in
+          ap Played (sym a.heading)
+          ∙ blocks_rebuilt o k.form bs (stated_count bs) 20 (20 + 8 * stated_count bs + 12 * stated_records bs) (stated_records bs) a.end m o.least (stated_opening o k bs)
+          (subst (λ (x : Heading). m ≤ x.jobs) (sym a.heading) l) a.blocks
 
       by : (b : Bool) → room_right h (length space) m ≡ b
           → cond b (blocks_played k.form bs 20 (20 + 8 * h.jobs + 12 * h.records) (stated_values k.form bs (20 + 8 * h.jobs) 12 h.records) m) space ≡ cond b (rebuilt (stated o k bs) m) space

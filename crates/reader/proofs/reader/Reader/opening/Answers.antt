@@ -3,8 +3,9 @@ use Rattle.archive.specs.declared.fault.Fault.{Fault}
 use Rattle.archive.specs.declared.fault.Fault.TheVariants.{SpaceWrong}
 use Rattle.archive.specs.Journal.{stated_opening}
 use Rattle.archive.specs.Values.{read_values, stated_values}
+use Rattle.archive.proofs.KnownArchive.{opening_long}
 use Rattle.reader.specs.Stated.{Stated}
-use Rattle.reader.proofs.Journal.{archive_met, opening_is, opening_long}
+use Rattle.reader.proofs.Journal.{opening_is, opening_read}
 use Rattle.reader.proofs.reader.Reader.opening.Goals as goal
 
 pub load-requires : goal.load-requires
@@ -28,7 +29,7 @@ returns g c =
     let size : length c.args.space.now ≡ length c.args.self.now.opening = c.if-space-records.false ∙ c.records.ensures in
     let many : length c.args.space.now ≡ a.stated.records = size ∙ sym e ∙ all in
     let here = ap (λ at. read_values k.form bs at 12 n) c.start.ensures ∙ ap (λ m. read_values k.form bs (20 + 8 * a.stated.jobs) 12 m) many in
-    let well = c.load.ensures.answer ∙ here ∙ (archive_met o k bs a.stated c.self.invariant).values in
+    let well = c.load.ensures.answer ∙ here ∙ opening_read o k bs a.stated c.self.invariant in
     let Filled : Result (Unit {0}) Fault → Type 0 = λ r. OnOk r (c.load.new.space ≡ stated_values k.form bs c.start.result 12 n) in
     let values = ap (λ at. stated_values k.form bs at 12 n) c.start.ensures ∙ ap (λ m. stated_values k.form bs (20 + 8 * a.stated.jobs) 12 m) many in
     let opens = ap (λ (v : Stated g.row.S.Denot g.row.R.Denot). v.opening) c.self.view_is in

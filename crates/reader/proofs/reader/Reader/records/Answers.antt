@@ -1,6 +1,6 @@
 use Rattle.std.proofs.Common.{length, sym, ap, ◌∙◌}
+use Rattle.archive.proofs.KnownArchive.{opening_long}
 use Rattle.reader.specs.Stated.{Stated}
-use Rattle.reader.proofs.Journal.{opening_long}
 use Rattle.reader.proofs.reader.Reader.records.Goals as goal
 
 pub returns : goal.returns
