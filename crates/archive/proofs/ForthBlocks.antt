@@ -1,5 +1,5 @@
 -- An accepted block is what is written for the job that it states.
-use Rattle.std.proofs.Common.{◌≡◌, ℕ, zero, suc, ◌+◌, ◌-◌, ◌*◌, ◌≤◌, Bool, true, ◌&&◌, eqb, List, [], ◌∷◌, ◌++◌, length, get_or, is_some, Some, None, Ok, Option, Result, sym, refl, ap, ◌∙◌, subst, add-zero, add_assoc, mul-suc, arith}
+use Rattle.std.proofs.Common.{◌≡◌, ℕ, zero, suc, ◌+◌, ◌*◌, ◌≤◌, Bool, true, ◌&&◌, eqb, List, [], ◌∷◌, ◌++◌, length, get_or, is_some, Some, None, Ok, Option, Result, sym, refl, ap, ◌∙◌, subst, add-zero, add_assoc, mul-suc, arith}
 use Rattle.std.specs.Option.{ok_or}
 use Rattle.std.specs.List.{flat_map}
 use Rattle.std.proofs.lemmas.List.{length-append}
@@ -9,18 +9,16 @@ use Rattle.kinds.specs.Forms.{Form, Formed}
 use Rattle.law.specs.Daybook.{Look, Put, AcceptedJob}
 use Rattle.archive.specs.declared.fault.Fault.{Fault}
 use Rattle.archive.specs.declared.fault.Fault.TheVariants.{ValueWrong}
-use Rattle.archive.specs.declared.blocks.Opened.{Opened}
 use Rattle.archive.specs.Faults.{onward}
-use Rattle.archive.specs.Directory.{pairs_bytes, stated_length, read_pair}
+use Rattle.archive.specs.Directory.{pairs_bytes, stated_length}
 use Rattle.archive.specs.Values.{read_values}
-use Rattle.archive.specs.Blocks.{stamp_at, all_noted, read_block, read_blocks}
+use Rattle.archive.specs.Blocks.{stamp_at, all_noted, read_blocks}
 use Rattle.archive.specs.Journal.{look_bytes, put_bytes, block_bytes, block_lengths, seen_look, stated_looks, seen_put, stated_puts, stated_job, seen_job, stated_jobs}
 use Rattle.archive.proofs.Forth.{pair_stands}
-use Rattle.archive.proofs.KnownPairs.{pair_says}
-use Rattle.archive.proofs.KnownBlocks.{block_says}
+use Rattle.archive.proofs.KnownBlocks.{first_says}
 use Rattle.archive.proofs.Long.{look_long, put_long, looks_long, block_long}
 use Rattle.archive.proofs.Stands.{Stands, join, moved, bytes_part, part_length}
-use Rattle.archive.proofs.Fields.{take-listed, stands4, stands2, bound, ok_same}
+use Rattle.archive.proofs.Fields.{take-listed, stands4, stands2, ok_same}
 
 module _ {S R : Type 0} (o : Order S) (f : Form R) (laws : Formed 8 o.form) (formed : Formed 12 f) (bs : List ℕ) (t : Bytes bs) where
   -- a stamp and a value that were read stand there
@@ -101,13 +99,13 @@ module _ {S R : Type 0} (o : Order S) (f : Form R) (laws : Formed 8 o.form) (for
       n3 at = omega arith
 
   -- the whole block
-  pub job_stands : (at : ℕ) (s : S) → at + 16 + 22 * get_or bs (at + 12) 0 + 14 * get_or bs (at + 13) 0 ≤ length bs → stamp_at o bs at ≡ Some s
+  job_stands : (at : ℕ) (s : S) → at + 16 + 22 * get_or bs (at + 12) 0 + 14 * get_or bs (at + 13) 0 ≤ length bs → stamp_at o bs at ≡ Some s
       → get_or bs (at + 14) 0 ≡ 0 → get_or bs (at + 15) 0 ≡ 0 → all_noted o bs (at + 16) (get_or bs (at + 12) 0) ≡ true
-      → read_values f bs (at + 26) 22 (get_or bs (at + 12) 0) ≡ Ok tt → read_values f bs (at + 18 + 22 * get_or bs (at + 12) 0) 14 (get_or bs (at + 13) 0) ≡ Ok tt
+      → read_values f bs (at + 16 + 10) 22 (get_or bs (at + 12) 0) ≡ Ok tt → read_values f bs (at + 16 + 22 * get_or bs (at + 12) 0 + 2) 14 (get_or bs (at + 13) 0) ≡ Ok tt
       → Stands bs at (block_bytes o f (stated_job o f bs at s)) × (length (block_bytes o f (stated_job o f bs at s)) ≡ 16 + 22 * get_or bs (at + 12) 0 + 14 * get_or bs (at + 13) 0)
   job_stands at s h e z0 z1 noted x y =
-      let l = looks_stand (get_or bs (at + 12) 0) (at + 16) (omega arith) noted (subst (λ (i : ℕ). read_values f bs i 22 (get_or bs (at + 12) 0) ≡ Ok tt) (far1 at) x) in
-      let u = puts_stand (get_or bs (at + 13) 0) (at + 16 + 22 * get_or bs (at + 12) 0) (omega arith) (subst (λ (i : ℕ). read_values f bs i 14 (get_or bs (at + 13) 0) ≡ Ok tt) (far2 at (get_or bs (at + 12) 0)) y) in
+      let l = looks_stand (get_or bs (at + 12) 0) (at + 16) (omega arith) noted x in
+      let u = puts_stand (get_or bs (at + 13) 0) (at + 16 + 22 * get_or bs (at + 12) 0) (omega arith) y in
       let ls : List (Look S R) = stated_looks o f bs (at + 16) (get_or bs (at + 12) 0) in
       let ps : List (Put R) = stated_puts o f bs (at + 16 + 22 * get_or bs (at + 12) 0) (get_or bs (at + 13) 0) in
       let lb : List ℕ = flat_map (look_bytes o f) ls in
@@ -123,19 +121,6 @@ module _ {S R : Type 0} (o : Order S) (f : Form R) (laws : Formed 8 o.form) (for
     where
       plus : (a b c : ℕ) → a + (b + c) ≡ a + b + c
       plus a b c = omega arith
-
-      far1 : (at : ℕ) → at + 26 ≡ at + 16 + 10
-      far1 at = omega arith
-
-      far2 : (at r : ℕ) → at + 18 + 22 * r ≡ at + 16 + 22 * r + 2
-      far2 at r = omega arith
-
-  pub block_stands : (n at len : ℕ) (low : S) (h : Opened S) → at + len ≤ length bs → read_block o f bs n at len low ≡ Ok h
-      → (s : S) × (stamp_at o bs at ≡ Some s) × Stands bs at (block_bytes o f (stated_job o f bs at s)) × (length (block_bytes o f (stated_job o f bs at s)) ≡ len)
-  block_stands n at len low h w q =
-      let m = block_says o f bs n at len low h q in
-      let st = job_stands at m.stamp (omega (arith, m.long)) m.stamped m.zeros.0 m.zeros.1 m.noted m.look_values m.put_values in
-      (m.stamp, m.stamped, st.0, st.1 ∙ sym m.long)
 
   -- the pairs and the blocks from a place on
   abbrev BlocksStand : ℕ → ℕ → ℕ → ℕ → List (AcceptedJob S R) → Type 0
@@ -162,14 +147,9 @@ module _ {S R : Type 0} (o : Order S) (f : Form R) (laws : Formed 8 o.form) (for
   pub blocks_stand : (m dir at n end : ℕ) (low : S) → read_blocks o f bs n dir at low m ≡ Ok end → BlocksStand dir at m end (stated_jobs o f bs dir at m)
   blocks_stand zero dir at n end low q = (refl, refl, refl, add-zero at ∙ ok_same at end q)
   blocks_stand (suc m) dir at n end low q =
-      let a = bound (read_pair bs dir at (eqb m 0)) _ end q in
-      let p = pair_says bs dir at a.0 (eqb m 0) a.1 in
-      let ex : at + stated_length bs dir ≡ a.0 = p.ends in
-      let b = bound (read_block o f bs n at (a.0 - at) low) _ end a.2 in
-      let blk = block_stands n at (a.0 - at) low b.0 (omega (arith, p.within, ex)) b.1 in
-      let ih = blocks_stand m (dir + 8) a.0 n end b.0.stamp b.2 in
-      let ih2 : BlocksStand (dir + 8) (at + stated_length bs dir) m end (stated_jobs o f bs (dir + 8) (at + stated_length bs dir) m) = subst (λ (i : ℕ). BlocksStand (dir + 8) i m end (stated_jobs o f bs (dir + 8) i m)) (sym ex) ih in
-      blocks_step dir at m end blk.0 (stamp_at o bs at) (stated_jobs o f bs (dir + 8) (at + stated_length bs dir) m) blk.1 (pair_stands bs t dir at a.0 (eqb m 0) p) blk.2 (blk.3 ∙ gap at (stated_length bs dir) a.0 ex) ih2
-    where
-      gap : (at n x : ℕ) → at + n ≡ x → x - at ≡ n
-      gap at n x e = omega arith
+      let z = first_says o f bs dir at n m end low q in
+      let b = z.block in
+      let st = job_stands at b.stamp (omega (arith, b.long, z.pair.within)) b.stamped b.zeros.0 b.zeros.1 b.noted b.look_values b.put_values in
+      blocks_step dir at m end b.stamp (stamp_at o bs at) (stated_jobs o f bs (dir + 8) (at + stated_length bs dir) m) b.stamped
+      (pair_stands bs t dir at (at + stated_length bs dir) (eqb m 0) z.pair) st.0 (st.1 ∙ sym b.long)
+      (blocks_stand m (dir + 8) (at + stated_length bs dir) n end z.opened.stamp z.rest)

@@ -1,5 +1,5 @@
 -- What is known of a block that was read.
-use Rattle.std.proofs.Common.{◌≡◌, ℕ, ◌+◌, ◌*◌, ◌≤◌, true, cond, not, eqb, leb, List, get_or, Some, None, Ok, Err, Option, sym, refl, ap, subst, arith}
+use Rattle.std.proofs.Common.{◌≡◌, ℕ, suc, ◌+◌, ◌-◌, ◌*◌, ◌≤◌, true, cond, not, eqb, leb, List, get_or, Some, None, Ok, Err, Option, sym, refl, ap, subst, arith}
 use Rattle.std.proofs.lemmas.Bool.{and_parts, not-true, leb-true, eqb-true}
 use Rattle.kinds.specs.Bytes.{number4, part}
 use Rattle.kinds.specs.Forms.{Form}
@@ -9,10 +9,12 @@ use Rattle.archive.specs.declared.fault.Fault.TheVariants.{BlockWrong}
 use Rattle.archive.specs.declared.blocks.Opened.{Opened}
 use Rattle.archive.specs.Faults.{onward}
 use Rattle.archive.specs.Lengths.{block_length, length_right}
+use Rattle.archive.specs.Directory.{stated_length, read_pair}
 use Rattle.archive.specs.Names.{numbers, all_below, apart, names_right}
 use Rattle.archive.specs.Values.{read_values}
-use Rattle.archive.specs.Blocks.{stamp_at, all_noted, front_right, with_stamp, read_front, names_of, read_block}
+use Rattle.archive.specs.Blocks.{stamp_at, all_noted, front_right, with_stamp, read_front, names_of, read_block, read_blocks}
 use Rattle.archive.proofs.Fields.{guarded, bound, ok_same}
+use Rattle.archive.proofs.KnownPairs.{PairSays, pair_says}
 
 module _ {S : Type 0} (o : Order S) (bs : List ℕ) where
   -- the stamp was read, and with the two sizes it is what was opened
@@ -61,10 +63,10 @@ module _ {S R : Type 0} (o : Order S) (f : Form R) (bs : List ℕ) where
     pub below : all_below n (put_names at) ≡ true
     pub once : apart (put_names at) ≡ true
     pub noted : all_noted o bs (at + 16) (get_or bs (at + 12) 0) ≡ true
-    pub look_values : read_values f bs (at + 26) 22 (get_or bs (at + 12) 0) ≡ Ok tt
-    pub put_values : read_values f bs (at + 18 + 22 * get_or bs (at + 12) 0) 14 (get_or bs (at + 13) 0) ≡ Ok tt
+    pub look_values : read_values f bs (at + 16 + 10) 22 (get_or bs (at + 12) 0) ≡ Ok tt
+    pub put_values : read_values f bs (at + 16 + 22 * get_or bs (at + 12) 0 + 2) 14 (get_or bs (at + 13) 0) ≡ Ok tt
 
-  pub block_says : (n at len : ℕ) (low : S) (h : Opened S) → read_block o f bs n at len low ≡ Ok h → BlockSays n at len low h
+  block_says : (n at len : ℕ) (low : S) (h : Opened S) → read_block o f bs n at len low ≡ Ok h → BlockSays n at len low h
   block_says n at len low h q =
       let r : ℕ = get_or bs (at + 12) 0 in
       let p : ℕ = get_or bs (at + 13) 0 in
@@ -95,6 +97,35 @@ module _ {S R : Type 0} (o : Order S) (f : Form R) (bs : List ℕ) where
         below = i.0;
         once = l.0;
         noted = d.1;
-        look_values = v.1;
-        put_values = w.1;
+        look_values = subst (λ (i : ℕ). read_values f bs i 22 r ≡ Ok tt) (far1 at) v.1;
+        put_values = subst (λ (i : ℕ). read_values f bs i 14 p ≡ Ok tt) (far2 at r) w.1;
       }
+    where
+      far1 : (at : ℕ) → at + 26 ≡ at + 16 + 10
+      far1 at = omega arith
+
+      far2 : (at r : ℕ) → at + 18 + 22 * r ≡ at + 16 + 22 * r + 2
+      far2 at r = omega arith
+
+  -- the first of some blocks, and the others behind it
+  pub record FirstSays (dir at n m end : ℕ) (low : S) : Type 0 where
+    pub pair : PairSays bs dir at (at + stated_length bs dir) (eqb m 0)
+    pub opened : Opened S
+    pub block : BlockSays n at (stated_length bs dir) low opened
+    pub rest : read_blocks o f bs n (dir + 8) (at + stated_length bs dir) opened.stamp m ≡ Ok end
+
+  pub first_says : (dir at n m end : ℕ) (low : S) → read_blocks o f bs n dir at low (suc m) ≡ Ok end → FirstSays dir at n m end low
+  first_says dir at n m end low q =
+      let a = bound (read_pair bs dir at (eqb m 0)) _ end q in
+      let p = pair_says bs dir at a.0 (eqb m 0) a.1 in
+      let b = bound (read_block o f bs n at (a.0 - at) low) _ end a.2 in
+      let e : a.0 ≡ at + stated_length bs dir = sym p.ends in
+      record {
+        pair = subst (λ (i : ℕ). PairSays bs dir at i (eqb m 0)) e p;
+        opened = b.0;
+        block = subst (λ (i : ℕ). BlockSays n at i low b.0) (gap at (stated_length bs dir) a.0 e) (block_says n at (a.0 - at) low b.0 b.1);
+        rest = subst (λ (i : ℕ). read_blocks o f bs n (dir + 8) i b.0.stamp m ≡ Ok end) e b.2;
+      }
+    where
+      gap : (at n x : ℕ) → x ≡ at + n → x - at ≡ n
+      gap at n x e = omega arith

@@ -1,5 +1,5 @@
 -- One form only: an accepted archive is what is written for what it states.
-use Rattle.std.proofs.Common.{◌≡◌, ℕ, zero, suc, ◌+◌, ◌-◌, ◌*◌, ◌≤◌, true, eqb, List, [], ◌∷◌, ◌++◌, length, Ok, sym, refl, ap, ◌∙◌, subst, mul-suc, arith}
+use Rattle.std.proofs.Common.{◌≡◌, ℕ, zero, suc, ◌+◌, ◌*◌, ◌≤◌, true, eqb, List, [], ◌∷◌, ◌++◌, length, Ok, sym, refl, ap, ◌∙◌, subst, mul-suc, arith}
 use Rattle.std.specs.List.{flat_map}
 use Rattle.std.proofs.lemmas.List.{length-append, length-map}
 use Rattle.std.proofs.lemmas.Bool.{eqb-true}
@@ -13,10 +13,11 @@ use Rattle.archive.specs.declared.heading.Heading.{Heading}
 use Rattle.archive.specs.Heading.{heading_bytes}
 use Rattle.archive.specs.Directory.{pairs_bytes, stated_length, read_pair, read_pairs}
 use Rattle.archive.specs.Values.{values_bytes}
-use Rattle.archive.specs.Blocks.{read_block, read_blocks}
+use Rattle.archive.specs.Blocks.{read_blocks}
 use Rattle.archive.specs.Rule.{read_archive}
 use Rattle.archive.specs.Journal.{block_bytes, block_lengths, archive_bytes, stated_records, stated_count, stated_opening, stated_journal}
 use Rattle.archive.specs.Theorems.{OneForm}
+use Rattle.archive.proofs.KnownBlocks.{first_says}
 use Rattle.archive.proofs.KnownArchive.{archive_says, inspected_says}
 use Rattle.archive.proofs.Stands.{Stands, join, all_of}
 use Rattle.archive.proofs.Fields.{guarded, bound, ok_same}
@@ -31,14 +32,11 @@ pairs_long at (n ∷ ns) = let i = pairs_long (at + n) ns in let m = mul-suc 8 (
 module _ {S R : Type 0} (o : Order S) (k : RecordKind R) (laws : Formed 8 o.form) (formed : Formed 12 k.form) (bs : List ℕ) (t : Bytes bs) where
   blocks_end : (m dir at n end : ℕ) (low : S) → read_blocks o k.form bs n dir at low (suc m) ≡ Ok end → end ≡ length bs
   blocks_end zero dir at n end low q =
-      let a = bound (read_pair bs dir at true) _ end q in
-      let p = pair_says bs dir at a.0 true a.1 in
-      let b = bound (read_block o k.form bs n at (a.0 - at) low) _ end a.2 in
-      sym (ok_same a.0 end b.2) ∙ p.closes refl
+      let z = first_says o k.form bs dir at n zero end low q in
+      sym (ok_same (at + stated_length bs dir) end z.rest) ∙ z.pair.closes refl
   blocks_end (suc m) dir at n end low q =
-      let a = bound (read_pair bs dir at (eqb (suc m) 0)) _ end q in
-      let b = bound (read_block o k.form bs n at (a.0 - at) low) _ end a.2 in
-      blocks_end m (dir + 8) a.0 n end b.0.stamp b.2
+      let z = first_says o k.form bs dir at n (suc m) end low q in
+      blocks_end m (dir + 8) (at + stated_length bs dir) n end z.opened.stamp z.rest
 
   archive_end : (j dir at n end : ℕ) (low : S) → read_blocks o k.form bs n dir at low j ≡ Ok end → (eqb j 0 ≡ true → at ≡ length bs) → end ≡ length bs
   archive_end zero dir at n end low q e = sym (ok_same at end q) ∙ e refl

@@ -1,5 +1,5 @@
 -- What blocks that were read say of the jobs that they state: each is neat under a ticket of four bytes, and no stamp falls.
-use Rattle.std.proofs.Common.{◌≡◌, ℕ, zero, suc, ◌+◌, ◌-◌, ◌*◌, ◌<◌, Bool, true, ◌&&◌, eqb, List, ◌∷◌, get_or, is_some, Some, None, Ok, Option, Result, sym, refl, ap, ◌∙◌, subst, arith}
+use Rattle.std.proofs.Common.{◌≡◌, ℕ, zero, suc, ◌+◌, ◌*◌, ◌<◌, Bool, true, ◌&&◌, List, ◌∷◌, get_or, is_some, Some, None, Ok, Option, Result, sym, refl, ap, ◌∙◌, subst, arith}
 use Rattle.std.specs.Option.{ok_or}
 use Rattle.std.specs.List.{AllByRecursion}
 use Rattle.kinds.specs.Bytes.{number2, number4, Bytes, part}
@@ -14,15 +14,13 @@ use Rattle.archive.specs.declared.fault.Fault.{Fault}
 use Rattle.archive.specs.declared.fault.Fault.TheVariants.{ValueWrong}
 use Rattle.archive.specs.declared.blocks.Opened.{Opened}
 use Rattle.archive.specs.Faults.{onward}
-use Rattle.archive.specs.Directory.{stated_length, read_pair}
+use Rattle.archive.specs.Directory.{stated_length}
 use Rattle.archive.specs.Values.{read_values}
 use Rattle.archive.specs.Names.{numbers, names_right}
-use Rattle.archive.specs.Blocks.{stamp_at, all_noted, read_block, read_blocks}
+use Rattle.archive.specs.Blocks.{stamp_at, all_noted, read_blocks}
 use Rattle.archive.specs.Journal.{seen_look, stated_looks, seen_put, stated_puts, stated_job, seen_job, stated_jobs}
 use Rattle.archive.proofs.Stands.{bytes_part}
-use Rattle.archive.proofs.Fields.{bound}
-use Rattle.archive.proofs.KnownPairs.{pair_says}
-use Rattle.archive.proofs.KnownBlocks.{BlockSays, block_says}
+use Rattle.archive.proofs.KnownBlocks.{BlockSays, first_says}
 use Rattle.readback.proofs.BackNames.{every}
 use Rattle.readback.proofs.NamesSay.{different, names_say}
 
@@ -64,8 +62,8 @@ module _ {S R : Type 0} (o : Order S) (f : Form R) (bs : List ℕ) where
       let p : ℕ = get_or bs (at + 13) 0 in
       let ls : List ℕ = look_numbers (stated_looks o f bs (at + 16) r) in
       let ps : List ℕ = put_numbers (stated_puts o f bs (at + 16 + 22 * r) p) in
-      let el : ls ≡ numbers bs (at + 16) 22 r = looks_numbered r (at + 16) b.noted (subst (λ (i : ℕ). read_values f bs i 22 r ≡ Ok tt) (far1 at) b.look_values) in
-      let ep : ps ≡ numbers bs (at + 16 + 22 * r) 14 p = puts_numbered p (at + 16 + 22 * r) (subst (λ (i : ℕ). read_values f bs i 14 p ≡ Ok tt) (far2 at r) b.put_values) in
+      let el : ls ≡ numbers bs (at + 16) 22 r = looks_numbered r (at + 16) b.noted b.look_values in
+      let ep : ps ≡ numbers bs (at + 16 + 22 * r) 14 p = puts_numbered p (at + 16 + 22 * r) b.put_values in
       let right : names_right n ls ps ≡ true = ap (λ xs. names_right n xs ps) el ∙ ap (names_right n (numbers bs (at + 16) 22 r)) ep ∙ b.names in
       let z = names_say ls ps n right in
       record {
@@ -79,12 +77,6 @@ module _ {S R : Type 0} (o : Order S) (f : Form R) (bs : List ℕ) where
         puts_named = z.puts_named;
         inside = z.inside;
       }
-    where
-      far1 : (at : ℕ) → at + 26 ≡ at + 16 + 10
-      far1 at = omega arith
-
-      far2 : (at r : ℕ) → at + 18 + 22 * r ≡ at + 16 + 22 * r + 2
-      far2 at r = omega arith
 
   -- its ticket has four bytes
   ticket_small : Bytes bs → (at : ℕ) → number4 (part bs at 4) < 4294967296
@@ -109,11 +101,9 @@ module _ {S R : Type 0} (o : Order S) (f : Form R) (bs : List ℕ) where
   pub jobs_say : Ordered o → Bytes bs → (m dir at n end : ℕ) (low : S) → read_blocks o f bs n dir at low m ≡ Ok end → JobsSay n low (stated_jobs o f bs dir at m)
   jobs_say laws t zero dir at n end low q = record { neat = tt; ticketed = tt; after = tt; never_falls = tt }
   jobs_say laws t (suc m) dir at n end low q =
-      let a = bound (read_pair bs dir at (eqb m 0)) _ end q in
-      let ex : at + stated_length bs dir ≡ a.0 = (pair_says bs dir at a.0 (eqb m 0) a.1).ends in
-      let b = bound (read_block o f bs n at (a.0 - at) low) _ end a.2 in
-      let s = block_says o f bs n at (a.0 - at) low b.0 b.1 in
+      let z = first_says o f bs dir at n m end low q in
+      let s = z.block in
       let rest : List (AcceptedJob S R) = stated_jobs o f bs (dir + 8) (at + stated_length bs dir) m in
-      let ih : JobsSay n b.0.stamp rest = jobs_say laws t m (dir + 8) (at + stated_length bs dir) n end b.0.stamp (subst (λ (i : ℕ). read_blocks o f bs n (dir + 8) i b.0.stamp m ≡ Ok end) (sym ex) b.2) in
+      let ih : JobsSay n z.opened.stamp rest = jobs_say laws t m (dir + 8) (at + stated_length bs dir) n end z.opened.stamp z.rest in
       subst (λ (u : Option S). JobsSay n low (seen_job o f bs at u rest)) (sym s.stamped)
-      (job_more laws n low (stated_job o f bs at s.stamp) rest (job_neat n at (a.0 - at) low b.0 s) (ticket_small t (at + 8)) s.after (subst (λ (x : S). JobsSay n x rest) (sym s.opens) ih))
+      (job_more laws n low (stated_job o f bs at s.stamp) rest (job_neat n at (stated_length bs dir) low z.opened s) (ticket_small t (at + 8)) s.after (subst (λ (x : S). JobsSay n x rest) (sym s.opens) ih))

@@ -1,5 +1,5 @@
 -- The values that play leaves are those of the play of the first jobs that the archive states.
-use Rattle.std.proofs.Common.{◌≡◌, ℕ, zero, suc, ◌+◌, ◌-◌, ◌*◌, ◌≤◌, Bool, true, false, cond, eqb, leb, List, length, get_or, take, Some, None, Ok, Option, sym, refl, ap, ◌∙◌, subst, arith}
+use Rattle.std.proofs.Common.{◌≡◌, ℕ, zero, suc, ◌+◌, ◌*◌, ◌≤◌, Bool, true, false, cond, eqb, leb, List, length, get_or, take, Some, None, Ok, Option, sym, refl, ap, ◌∙◌, subst, arith}
 use Rattle.std.specs.Option.{option_map}
 use Rattle.std.specs.List.{slice_get}
 use Rattle.std.proofs.lemmas.Bool.{and_from, eq-eqb, le-leb}
@@ -12,17 +12,15 @@ use Rattle.law.specs.Account.{StandingAt, put_of, at_opening, after_job, played}
 use Rattle.archive.specs.declared.heading.Heading.{Heading}
 use Rattle.archive.specs.declared.blocks.Opened.{Opened}
 use Rattle.archive.specs.Lengths.{block_length}
-use Rattle.archive.specs.Directory.{stated_length, read_pair}
+use Rattle.archive.specs.Directory.{stated_length}
 use Rattle.archive.specs.Values.{stated_values}
-use Rattle.archive.specs.Blocks.{read_block, read_blocks}
+use Rattle.archive.specs.Blocks.{read_blocks}
 use Rattle.archive.specs.Rule.{read_archive}
 use Rattle.archive.specs.Played.{values_after, block_played, blocks_played, room_right, play_leaves}
 use Rattle.archive.specs.Journal.{stated_puts, stated_job, seen_job, stated_jobs, stated_records, stated_count, stated_opening, stated_journal}
 use Rattle.archive.proofs.Long.{values_long}
-use Rattle.archive.proofs.Fields.{bound}
-use Rattle.archive.proofs.KnownPairs.{pair_says}
 use Rattle.archive.proofs.KnownArchive.{archive_says}
-use Rattle.archive.proofs.KnownBlocks.{BlockSays, block_says}
+use Rattle.archive.proofs.KnownBlocks.{BlockSays, first_says}
 use Rattle.readback.specs.PlaysBack.{value_at, PlaysWhatIsStated}
 use Rattle.readback.proofs.PutsOver.{over, value_under, puts_over, after_length}
 
@@ -64,15 +62,11 @@ module _ {S R : Type 0} (o : Order S) (f : Form R) (bs : List ℕ) where
   plays (suc j) dir at n end low q zero c vs l standing h x = h x
   plays zero dir at n end low q (suc m) c vs l standing h x = absurd (omega arith)
   plays (suc j) dir at n end low q (suc m) c vs l standing h x =
-      let a = bound (read_pair bs dir at (eqb j 0)) _ end q in
-      let p = pair_says bs dir at a.0 (eqb j 0) a.1 in
-      let ex : at + stated_length bs dir ≡ a.0 = p.ends in
-      let w : a.0 ≤ length bs = p.within in
-      let b = bound (read_block o f bs n at (a.0 - at) low) _ end a.2 in
-      let s = block_says o f bs n at (a.0 - at) low b.0 b.1 in
+      let z = first_says o f bs dir at n j end low q in
+      let s = z.block in
       let rest : List (AcceptedJob S R) = stated_jobs o f bs (dir + 8) (at + stated_length bs dir) j in
-      plays j (dir + 8) (at + stated_length bs dir) n end b.0.stamp (subst (λ (i : ℕ). read_blocks o f bs n (dir + 8) i b.0.stamp j ≡ Ok end) (sym ex) b.2) m (omega arith)
-      (block_played f bs at vs) (block_length_kept at vs ∙ l) (after_job (stated_job o f bs at s.stamp) standing) (block_shows at n (a.0 - at) low b.0 vs standing s (omega arith) l h s.stamp) x
+      plays j (dir + 8) (at + stated_length bs dir) n end z.opened.stamp z.rest m (omega arith)
+      (block_played f bs at vs) (block_length_kept at vs ∙ l) (after_job (stated_job o f bs at s.stamp) standing) (block_shows at n (stated_length bs dir) low z.opened vs standing s z.pair.within l h s.stamp) x
       ∙ ap (λ u. value_at (played standing (take (suc m) (seen_job o f bs at u rest))) x) (sym s.stamped)
 
 module _ {S R : Type 0} (o : Order S) (k : RecordKind R) (bs : List ℕ) where

@@ -1,5 +1,5 @@
 -- The jobs that an archive states, found by the offsets in its directory.
-use Rattle.std.proofs.Common.{◌≡◌, ℕ, zero, suc, ◌+◌, ◌-◌, ◌*◌, ◌<◌, eqb, List, length, get_or, take, Some, None, Ok, Option, refl, sym, ap, ◌∙◌, subst, mul-zero, mul-suc, arith}
+use Rattle.std.proofs.Common.{◌≡◌, ℕ, zero, suc, ◌+◌, ◌*◌, ◌<◌, eqb, List, length, get_or, take, Some, None, Ok, Option, refl, sym, ap, ◌∙◌, subst, mul-zero, mul-suc, arith}
 use Rattle.std.specs.Prelude.{fold}
 use Rattle.std.specs.List.{slice_get}
 use Rattle.std.specs.Option.{option_map}
@@ -9,15 +9,14 @@ use Rattle.kinds.specs.Stamps.{Order}
 use Rattle.kinds.specs.Values.{RecordKind}
 use Rattle.law.specs.Daybook.{AcceptedJob}
 use Rattle.archive.specs.declared.heading.Heading.{Heading}
-use Rattle.archive.specs.Directory.{stated_length, read_pair}
+use Rattle.archive.specs.Directory.{stated_length}
 use Rattle.archive.specs.Values.{read_values, stated_values}
-use Rattle.archive.specs.Blocks.{stamp_at, read_block, read_blocks}
+use Rattle.archive.specs.Blocks.{stamp_at, read_blocks}
 use Rattle.archive.specs.Rule.{read_archive}
 use Rattle.archive.specs.Journal.{stated_job, seen_job, stated_jobs, stated_puts, stated_records, stated_count, stated_opening, stated_journal}
-use Rattle.archive.proofs.Fields.{bound}
-use Rattle.archive.proofs.KnownPairs.{PairSays, pair_says}
+use Rattle.archive.proofs.KnownPairs.{PairSays}
 use Rattle.archive.proofs.KnownArchive.{archive_says}
-use Rattle.archive.proofs.KnownBlocks.{block_says}
+use Rattle.archive.proofs.KnownBlocks.{first_says}
 use Rattle.reader.specs.Readable.{Readable}
 use Rattle.reader.specs.Rebuilt.{with_puts, with_job}
 
@@ -45,8 +44,7 @@ module _ {S R : Type 0} (o : Order S) (f : Form R) (bs : List ℕ) where
 
   -- the first of the blocks, and those behind it
   pub record BlocksMet (dir at n m end : ℕ) : Type 0 where
-    pub next : ℕ
-    pub pair : PairSays bs dir at next (eqb m 0)
+    pub pair : PairSays bs dir at (at + stated_length bs dir) (eqb m 0)
     pub first : JobFirst o f bs at (stamp_at o bs at) (stated_jobs o f bs (dir + 8) (at + stated_length bs dir) m)
     pub readable : CanRead at
     pub low : S
@@ -54,28 +52,20 @@ module _ {S R : Type 0} (o : Order S) (f : Form R) (bs : List ℕ) where
 
   pub blocks_met : (dir at n m end : ℕ) (low : S) → read_blocks o f bs n dir at low (suc m) ≡ Ok end → BlocksMet dir at n m end
   blocks_met dir at n m end low q =
-      let a = bound (read_pair bs dir at (eqb m 0)) _ end q in
-      let p = pair_says bs dir at a.0 (eqb m 0) a.1 in
-      let b = bound (read_block o f bs n at (a.0 - at) low) _ end a.2 in
-      let k = block_says o f bs n at (a.0 - at) low b.0 b.1 in
-      let r : ℕ = get_or bs (at + 12) 0 in
-      let P : ℕ → Type 0 = λ i. read_blocks o f bs n (dir + 8) i b.0.stamp m ≡ Ok end in
-      let Seen : ℕ → Type 0 = λ i. read_values f bs i 22 r ≡ Ok tt in
-      let Put : ℕ → Type 0 = λ i. read_values f bs i 14 (get_or bs (at + 13) 0) ≡ Ok tt in
-      let x : at + 26 ≡ at + 16 + 10 = omega arith in
-      let y : at + 18 + 22 * r ≡ at + 16 + 22 * r + 2 = omega arith in
+      let z = first_says o f bs dir at n m end low q in
+      let p = z.pair in
+      let k = z.block in
       record {
-        next = a.0;
         pair = p;
         first = job_first o f bs at (stamp_at o bs at) k.stamp (stated_jobs o f bs (dir + 8) (at + stated_length bs dir) m) k.stamped;
         readable =
             record {
-              front = omega (arith, p.ends, p.within, k.long);
-              looks = record { within = omega (arith, p.ends, p.within, k.long); noted = k.noted; valued = subst Seen x k.look_values };
-              puts = record { within = omega (arith, p.ends, p.within, k.long); valued = subst Put y k.put_values };
+              front = omega (arith, p.within, k.long);
+              looks = record { within = omega (arith, p.within, k.long); noted = k.noted; valued = k.look_values };
+              puts = record { within = omega (arith, p.within, k.long); valued = k.put_values };
             };
-        low = b.0.stamp;
-        rest = subst P (sym p.ends) b.2;
+        low = z.opened.stamp;
+        rest = z.rest;
       }
 
   pub jobs_long : (m dir at n end : ℕ) (low : S) → read_blocks o f bs n dir at low m ≡ Ok end → length (stated_jobs o f bs dir at m) ≡ m
