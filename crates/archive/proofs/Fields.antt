@@ -1,8 +1,10 @@
 -- Numbers that stand at a place, and readers that were met.
-use Rattle.std.proofs.Common.{◌≡◌, ℕ, zero, suc, ◌+◌, ◌^◌, ◌<◌, ◌≤◌, Bool, true, false, cond, List, ◌∷◌, length, get_or, take, drop, Ok, Err, Result, sym, refl, ap, ◌∙◌, arith, drop-cons}
+use Rattle.std.proofs.Common.{◌≡◌, ℕ, zero, suc, ◌+◌, ◌^◌, ◌<◌, ◌≤◌, Bool, true, false, cond, List, ◌∷◌, length, get_or, take, drop, Some, None, Ok, Err, Option, Result, sym, refl, ap, ◌∙◌, arith, drop-cons}
+use Rattle.std.specs.Option.{ok_or}
 use Rattle.kinds.specs.Bytes.{be2, be4, number2, number4, Bytes, part}
 use Rattle.kinds.specs.ByteLaws.{listed, is_listed, forth2, forth4, back2, back4}
 use Rattle.archive.specs.declared.fault.Fault.{Fault}
+use Rattle.archive.specs.declared.fault.Fault.TheVariants.{ValueWrong}
 use Rattle.archive.specs.Faults.{onward}
 use Rattle.archive.proofs.Stands.{Stands, bytes_part, part_length}
 
@@ -39,3 +41,8 @@ bound (Err e) f y h = let z : ◌≡◌ {A = ℕ} 0 1 = cc in absurd (omega arit
 
 pub ok_same : {A : Type 0} (x y : A) → ◌≡◌ {A = Result A Fault} (Ok x) (Ok y) → x ≡ y
 ok_same x y h = cc
+
+-- where a value and what follows it are right, both are
+pub value_met : {R : Type 0} (at : ℕ) (p : Option R) (rest : Result (Unit {0}) Fault) → onward (ok_or p (ValueWrong at)) (λ _. rest) ≡ Ok tt → (v : R) × (p ≡ Some v) × (rest ≡ Ok tt)
+value_met at (Some v) rest q = (v, refl, q)
+value_met at None rest q = let z : ◌≡◌ {A = ℕ} 0 1 = cc in absurd (omega arith)

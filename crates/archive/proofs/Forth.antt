@@ -1,19 +1,15 @@
 -- What is accepted is what is written: heading, pairs and values.
-use Rattle.std.proofs.Common.{◌≡◌, ℕ, zero, suc, ◌+◌, ◌*◌, ◌<◌, ◌≤◌, Bool, true, ◌&&◌, leb, List, [], ◌∷◌, ◌++◌, length, get_or, drop, Some, None, Ok, Option, Result, sym, refl, ap, ◌∙◌, subst, mul-suc, arith}
-use Rattle.std.specs.Option.{ok_or}
+use Rattle.std.proofs.Common.{◌≡◌, ℕ, zero, suc, ◌+◌, ◌*◌, ◌<◌, ◌≤◌, Bool, true, ◌&&◌, leb, List, [], ◌∷◌, ◌++◌, length, get_or, drop, Some, Ok, Option, sym, refl, ap, ◌∙◌, subst, mul-suc, arith}
 use Rattle.std.proofs.lemmas.List.{length-append, length-drop, get_or-drop}
 use Rattle.std.proofs.lemmas.Bool.{and_parts, leb-true, eqb-true}
 use Rattle.kinds.specs.Bytes.{be4, Bytes, part}
 use Rattle.kinds.specs.Forms.{Form, Formed}
 use Rattle.kinds.specs.ByteLaws.{forth2, forth4}
-use Rattle.archive.specs.declared.fault.Fault.{Fault}
-use Rattle.archive.specs.declared.fault.Fault.TheVariants.{ValueWrong}
-use Rattle.archive.specs.Faults.{onward}
 use Rattle.archive.specs.Heading.{heading_bytes, mark_right, kinds_right, records_in, jobs_in, sizes_right}
 use Rattle.archive.specs.Directory.{stated_length}
 use Rattle.archive.specs.Values.{values_bytes, read_values, value_first, stated_values}
-use Rattle.archive.proofs.Stands.{Stands, join, bytes_part, part_length}
-use Rattle.archive.proofs.Fields.{take-listed, stands4}
+use Rattle.archive.proofs.Stands.{Stands, join, moved, bytes_part, part_length}
+use Rattle.archive.proofs.Fields.{take-listed, stands4, value_met}
 use Rattle.archive.proofs.KnownPairs.{PairSays}
 
 twelve_same : (s r a b c d e f g h i j k l : ℕ) → a ≡ 65 → b ≡ 83 → c ≡ 74 → d ≡ 49 → e ≡ s → f ≡ r → g < 256 → h < 256 → i < 256 → j < 256 → k < 256 → l < 256
@@ -62,22 +58,16 @@ module _ (bs : List ℕ) (t : Bytes bs) where
   pair_stands at from end last p =
       join bs at (be4 from) (be4 (stated_length bs at)) (subst (λ (m : ℕ). Stands bs at (be4 m)) p.starts (stands4 bs t at (omega (arith, p.whole)))) (stands4 bs t (at + 4) (omega (arith, p.whole)))
 
-  module _ {R : Type 0} (f : Form R) (laws : Formed 12 f) where
-    values_step : (at n : ℕ) (o : Option R) → at + 12 ≤ length bs → f.read (part bs at 12) ≡ o
-        → (vs : List R) → (rest : Result (Unit {0}) Fault) → onward (ok_or o (ValueWrong at)) (λ _. rest) ≡ Ok tt
-        → (rest ≡ Ok tt → Stands bs (at + 12) (values_bytes f vs) × (length vs ≡ n))
-        → Stands bs at (values_bytes f (value_first o vs)) × (length (value_first o vs) ≡ suc n)
-    values_step at n (Some v) h e vs rest q ih =
-        let l = part_length bs at 12 h in
-        let w : f.written v ≡ part bs at 12 = laws.forth (part bs at 12) v l (bytes_part bs t at 12) e in
-        let k = laws.wide v in
-        let s : Stands bs at (f.written v) = ap (λ m. part bs at m) k ∙ sym w in
-        (join bs at (f.written v) (values_bytes f vs) s (subst (λ (m : ℕ). Stands bs (at + m) (values_bytes f vs)) (sym k) (ih q).0), ap suc (ih q).1)
-    values_step at n None h e vs rest q ih = let z : ◌≡◌ {A = ℕ} 0 1 = cc in absurd (omega arith)
+  -- what was read by a form stands there
+  pub form_stands : {A : Type 0} (w : ℕ) (f : Form A) → Formed w f → (at : ℕ) (v : A) → at + w ≤ length bs → f.read (part bs at w) ≡ Some v → Stands bs at (f.written v)
+  form_stands w f laws at v h e = ap (λ m. part bs at m) (laws.wide v) ∙ sym (laws.forth (part bs at w) v (part_length bs at w h) (bytes_part bs t at w) e)
 
-    pub values_stand : (n at : ℕ) → at + 12 * n ≤ length bs → read_values f bs at 12 n ≡ Ok tt
-        → Stands bs at (values_bytes f (stated_values f bs at 12 n)) × (length (stated_values f bs at 12 n) ≡ n)
-    values_stand zero at h q = (refl, refl)
-    values_stand (suc n) at h q =
-        let m = mul-suc 12 n in
-        values_step at n (f.read (part bs at 12)) (omega arith) refl (stated_values f bs (at + 12) 12 n) (read_values f bs (at + 12) 12 n) q (λ p. values_stand n (at + 12) (omega arith) p)
+  pub values_stand : {R : Type 0} (f : Form R) → Formed 12 f → (n at : ℕ) → at + 12 * n ≤ length bs → read_values f bs at 12 n ≡ Ok tt → Stands bs at (values_bytes f (stated_values f bs at 12 n))
+  values_stand f laws zero at h q = refl
+  values_stand {R} f laws (suc n) at h q =
+      let m = mul-suc 12 n in
+      let v = value_met at (f.read (part bs at 12)) (read_values f bs (at + 12) 12 n) q in
+      let vs : List R = stated_values f bs (at + 12) 12 n in
+      subst (λ (p : Option R). Stands bs at (values_bytes f (value_first p vs))) (sym v.1)
+      (join bs at (f.written v.0) (values_bytes f vs) (form_stands 12 f laws at v.0 (omega arith) v.1)
+      (moved bs (values_bytes f vs) (ap (λ i. at + i) (sym (laws.wide v.0))) (values_stand f laws n (at + 12) (omega arith) v.2)))

@@ -1,86 +1,57 @@
 -- An accepted block is what is written for the job that it states.
-use Rattle.std.proofs.Common.{◌≡◌, ℕ, zero, suc, ◌+◌, ◌*◌, ◌≤◌, Bool, true, ◌&&◌, eqb, List, [], ◌∷◌, ◌++◌, length, get_or, is_some, Some, None, Ok, Option, Result, sym, refl, ap, ◌∙◌, subst, add-zero, add_assoc, mul-suc, arith}
-use Rattle.std.specs.Option.{ok_or}
+use Rattle.std.proofs.Common.{◌≡◌, ℕ, zero, suc, ◌+◌, ◌*◌, ◌≤◌, true, eqb, List, [], ◌∷◌, ◌++◌, length, get_or, Some, None, Ok, Option, sym, refl, ap, ◌∙◌, subst, add-zero, add_assoc, mul-suc, arith}
 use Rattle.std.specs.List.{flat_map}
 use Rattle.std.proofs.lemmas.List.{length-append}
 use Rattle.kinds.specs.Stamps.{Order}
 use Rattle.kinds.specs.Bytes.{be2, be4, number2, number4, Bytes, part}
 use Rattle.kinds.specs.Forms.{Form, Formed}
 use Rattle.law.specs.Daybook.{Look, Put, AcceptedJob}
-use Rattle.archive.specs.declared.fault.Fault.{Fault}
-use Rattle.archive.specs.declared.fault.Fault.TheVariants.{ValueWrong}
-use Rattle.archive.specs.Faults.{onward}
 use Rattle.archive.specs.Directory.{pairs_bytes, stated_length}
 use Rattle.archive.specs.Values.{read_values}
 use Rattle.archive.specs.Blocks.{stamp_at, all_noted, read_blocks}
-use Rattle.archive.specs.Journal.{look_bytes, put_bytes, block_bytes, block_lengths, seen_look, stated_looks, seen_put, stated_puts, stated_job, seen_job, stated_jobs}
-use Rattle.archive.proofs.Forth.{pair_stands}
+use Rattle.archive.specs.Journal.{look_bytes, put_bytes, block_bytes, block_lengths, stated_looks, stated_puts, stated_job, seen_job, stated_jobs}
+use Rattle.archive.proofs.Forth.{pair_stands, form_stands}
+use Rattle.archive.proofs.KnownEntries.{look_says, looks_stated, put_says, puts_stated}
 use Rattle.archive.proofs.KnownBlocks.{first_says}
 use Rattle.archive.proofs.Long.{look_long, put_long, looks_long, block_long}
-use Rattle.archive.proofs.Stands.{Stands, join, moved, bytes_part, part_length}
+use Rattle.archive.proofs.Stands.{Stands, join, moved}
 use Rattle.archive.proofs.Fields.{take-listed, stands4, stands2, ok_same}
 
 module _ {S R : Type 0} (o : Order S) (f : Form R) (laws : Formed 8 o.form) (formed : Formed 12 f) (bs : List ℕ) (t : Bytes bs) where
-  -- a stamp and a value that were read stand there
-  stamp_stands : (at : ℕ) (s : S) → at + 8 ≤ length bs → stamp_at o bs at ≡ Some s → Stands bs at (o.form.written s)
-  stamp_stands at s h e = ap (λ m. part bs at m) (laws.wide s) ∙ sym (laws.forth (part bs at 8) s (part_length bs at 8 h) (bytes_part bs t at 8) e)
-
-  value_stands : (at : ℕ) (v : R) → at + 12 ≤ length bs → f.read (part bs at 12) ≡ Some v → Stands bs at (f.written v)
-  value_stands at v h e = ap (λ m. part bs at m) (formed.wide v) ∙ sym (formed.forth (part bs at 12) v (part_length bs at 12 h) (bytes_part bs t at 12) e)
-
   look_stands : (at : ℕ) (s : S) (v : R) → at + 22 ≤ length bs → stamp_at o bs (at + 2) ≡ Some s → f.read (part bs (at + 10) 12) ≡ Some v
       → Stands bs at (look_bytes o f (record { number = number2 (part bs at 2); saw = record { value = v; stamp = s } }))
   look_stands at s v h p q =
       join bs at (be2 (number2 (part bs at 2))) (o.form.written s ++ f.written v) (stands2 bs t at (omega arith))
-      (join bs (at + 2) (o.form.written s) (f.written v) (stamp_stands (at + 2) s (omega arith) p)
-      (subst (λ (m : ℕ). Stands bs m (f.written v)) far (value_stands (at + 10) v (omega arith) q)))
+      (join bs (at + 2) (o.form.written s) (f.written v) (form_stands bs t 8 o.form laws (at + 2) s (omega arith) p)
+      (subst (λ (m : ℕ). Stands bs m (f.written v)) far (form_stands bs t 12 f formed (at + 10) v (omega arith) q)))
     where
       far : at + 10 ≡ at + 2 + length (o.form.written s)
       far = let w = laws.wide s in omega arith
 
-  looks_step : (at m : ℕ) (u0 : Option S) (p : Option R) → at + 22 ≤ length bs → stamp_at o bs (at + 2) ≡ u0 → f.read (part bs (at + 10) 12) ≡ p
-      → (ls : List (Look S R)) (b : Bool) (rest : Result (Unit {0}) Fault) → (is_some u0 && b) ≡ true → onward (ok_or p (ValueWrong (at + 10))) (λ _. rest) ≡ Ok tt
-      → (b ≡ true → rest ≡ Ok tt → Stands bs (at + 22) (flat_map (look_bytes o f) ls) × (length ls ≡ m))
-      → Stands bs at (flat_map (look_bytes o f) (seen_look o f (number2 (part bs at 2)) u0 p ls)) × (length (seen_look o f (number2 (part bs at 2)) u0 p ls) ≡ suc m)
-  looks_step at m (Some s) (Some v) h e q ls b rest x y ih =
-      let l : Look S R = record { number = number2 (part bs at 2); saw = record { value = v; stamp = s } } in
-      (join bs at (look_bytes o f l) (flat_map (look_bytes o f) ls) (look_stands at s v h e q) (subst (λ (n : ℕ). Stands bs (at + n) (flat_map (look_bytes o f) ls)) (sym (look_long o f laws formed l)) (ih x y).0), ap suc (ih x y).1)
-  looks_step at m (Some s) None h e q ls b rest x y ih = let z : ◌≡◌ {A = ℕ} 0 1 = cc in absurd (omega arith)
-  looks_step at m None p h e q ls b rest x y ih = let z : ◌≡◌ {A = ℕ} 0 1 = cc in absurd (omega arith)
-
-  pub looks_stand : (m at : ℕ) → at + 22 * m ≤ length bs → all_noted o bs at m ≡ true → read_values f bs (at + 10) 22 m ≡ Ok tt
-      → Stands bs at (flat_map (look_bytes o f) (stated_looks o f bs at m)) × (length (stated_looks o f bs at m) ≡ m)
-  looks_stand zero at h x y = (refl, refl)
+  looks_stand : (m at : ℕ) → at + 22 * m ≤ length bs → all_noted o bs at m ≡ true → read_values f bs (at + 10) 22 m ≡ Ok tt → Stands bs at (flat_map (look_bytes o f) (stated_looks o f bs at m))
+  looks_stand zero at h x y = refl
   looks_stand (suc m) at h x y =
       let u = mul-suc 22 m in
-      looks_step at m (stamp_at o bs (at + 2)) (f.read (part bs (at + 10) 12)) (omega arith) refl refl (stated_looks o f bs (at + 22) m) (all_noted o bs (at + 22) m) (read_values f bs (at + 10 + 22) 22 m) x y
-      (λ p q. looks_stand m (at + 22) (omega arith) p (subst (λ (i : ℕ). read_values f bs i 22 m ≡ Ok tt) (swap at) q))
-    where
-      swap : (at : ℕ) → at + 10 + 22 ≡ at + 22 + 10
-      swap at = omega arith
+      let z = look_says o f bs m at x y in
+      let ls : List (Look S R) = stated_looks o f bs (at + 22) m in
+      let l : Look S R = record { number = number2 (part bs at 2); saw = record { value = z.value; stamp = z.stamp } } in
+      subst (λ (ks : List (Look S R)). Stands bs at (flat_map (look_bytes o f) ks)) (sym z.states)
+      (join bs at (look_bytes o f l) (flat_map (look_bytes o f) ls) (look_stands at z.stamp z.value (omega arith) z.stamped z.valued)
+      (moved bs (flat_map (look_bytes o f) ls) (ap (λ n. at + n) (sym (look_long o f laws formed l))) (looks_stand m (at + 22) (omega arith) z.noted z.rest)))
 
   put_stands : (at : ℕ) (v : R) → at + 14 ≤ length bs → f.read (part bs (at + 2) 12) ≡ Some v → Stands bs at (put_bytes o f (record { number = number2 (part bs at 2); value = v }))
-  put_stands at v h q = join bs at (be2 (number2 (part bs at 2))) (f.written v) (stands2 bs t at (omega arith)) (value_stands (at + 2) v (omega arith) q)
+  put_stands at v h q = join bs at (be2 (number2 (part bs at 2))) (f.written v) (stands2 bs t at (omega arith)) (form_stands bs t 12 f formed (at + 2) v (omega arith) q)
 
-  puts_step : (at m : ℕ) (p : Option R) → at + 14 ≤ length bs → f.read (part bs (at + 2) 12) ≡ p
-      → (ls : List (Put R)) (rest : Result (Unit {0}) Fault) → onward (ok_or p (ValueWrong (at + 2))) (λ _. rest) ≡ Ok tt
-      → (rest ≡ Ok tt → Stands bs (at + 14) (flat_map (put_bytes o f) ls) × (length ls ≡ m))
-      → Stands bs at (flat_map (put_bytes o f) (seen_put o f (number2 (part bs at 2)) p ls)) × (length (seen_put o f (number2 (part bs at 2)) p ls) ≡ suc m)
-  puts_step at m (Some v) h q ls rest y ih =
-      let l : Put R = record { number = number2 (part bs at 2); value = v } in
-      (join bs at (put_bytes o f l) (flat_map (put_bytes o f) ls) (put_stands at v h q) (subst (λ (n : ℕ). Stands bs (at + n) (flat_map (put_bytes o f) ls)) (sym (put_long o f laws formed l)) (ih y).0), ap suc (ih y).1)
-  puts_step at m None h q ls rest y ih = let z : ◌≡◌ {A = ℕ} 0 1 = cc in absurd (omega arith)
-
-  pub puts_stand : (m at : ℕ) → at + 14 * m ≤ length bs → read_values f bs (at + 2) 14 m ≡ Ok tt
-      → Stands bs at (flat_map (put_bytes o f) (stated_puts o f bs at m)) × (length (stated_puts o f bs at m) ≡ m)
-  puts_stand zero at h y = (refl, refl)
+  puts_stand : (m at : ℕ) → at + 14 * m ≤ length bs → read_values f bs (at + 2) 14 m ≡ Ok tt → Stands bs at (flat_map (put_bytes o f) (stated_puts o f bs at m))
+  puts_stand zero at h y = refl
   puts_stand (suc m) at h y =
       let u = mul-suc 14 m in
-      puts_step at m (f.read (part bs (at + 2) 12)) (omega arith) refl (stated_puts o f bs (at + 14) m) (read_values f bs (at + 2 + 14) 14 m) y
-      (λ q. puts_stand m (at + 14) (omega arith) (subst (λ (i : ℕ). read_values f bs i 14 m ≡ Ok tt) (swap at) q))
-    where
-      swap : (at : ℕ) → at + 2 + 14 ≡ at + 14 + 2
-      swap at = omega arith
+      let z = put_says o f bs m at y in
+      let ps : List (Put R) = stated_puts o f bs (at + 14) m in
+      let p : Put R = record { number = number2 (part bs at 2); value = z.value } in
+      subst (λ (ks : List (Put R)). Stands bs at (flat_map (put_bytes o f) ks)) (sym z.states)
+      (join bs at (put_bytes o f p) (flat_map (put_bytes o f) ps) (put_stands at z.value (omega arith) z.valued)
+      (moved bs (flat_map (put_bytes o f) ps) (ap (λ n. at + n) (sym (put_long o f laws formed p))) (puts_stand m (at + 14) (omega arith) z.rest)))
 
   small_stands : (at r p : ℕ) → at + 16 ≤ length bs → get_or bs (at + 12) 0 ≡ r → get_or bs (at + 13) 0 ≡ p → get_or bs (at + 14) 0 ≡ 0 → get_or bs (at + 15) 0 ≡ 0 → Stands bs (at + 12) (r ∷ p ∷ 0 ∷ 0 ∷ [])
   small_stands at r p h e0 e1 e2 e3 =
@@ -105,18 +76,20 @@ module _ {S R : Type 0} (o : Order S) (f : Form R) (laws : Formed 8 o.form) (for
       → Stands bs at (block_bytes o f (stated_job o f bs at s)) × (length (block_bytes o f (stated_job o f bs at s)) ≡ 16 + 22 * get_or bs (at + 12) 0 + 14 * get_or bs (at + 13) 0)
   job_stands at s h e z0 z1 noted x y =
       let l = looks_stand (get_or bs (at + 12) 0) (at + 16) (omega arith) noted x in
+      let ln = looks_stated o f bs (get_or bs (at + 12) 0) (at + 16) noted x in
       let u = puts_stand (get_or bs (at + 13) 0) (at + 16 + 22 * get_or bs (at + 12) 0) (omega arith) y in
+      let un = puts_stated o f bs (get_or bs (at + 13) 0) (at + 16 + 22 * get_or bs (at + 12) 0) y in
       let ls : List (Look S R) = stated_looks o f bs (at + 16) (get_or bs (at + 12) 0) in
       let ps : List (Put R) = stated_puts o f bs (at + 16 + 22 * get_or bs (at + 12) 0) (get_or bs (at + 13) 0) in
       let lb : List ℕ = flat_map (look_bytes o f) ls in
       let pb : List ℕ = flat_map (put_bytes o f) ps in
       let mid : List ℕ = length ls ∷ length ps ∷ 0 ∷ 0 ∷ [] in
-      let tail : Stands bs (at + 16) (lb ++ pb) = join bs (at + 16) lb pb l.0 (moved bs pb (ap (λ n. at + 16 + n) (sym (looks_long o f laws formed ls ∙ ap (λ n. 22 * n) l.1))) u.0) in
-      let m4 : Stands bs (at + 12) mid = small_stands at (length ls) (length ps) (omega arith) (sym l.1) (sym u.1) z0 z1 in
+      let tail : Stands bs (at + 16) (lb ++ pb) = join bs (at + 16) lb pb l (moved bs pb (ap (λ n. at + 16 + n) (sym (looks_long o f laws formed ls ∙ ap (λ n. 22 * n) ln))) u) in
+      let m4 : Stands bs (at + 12) mid = small_stands at (length ls) (length ps) (omega arith) (sym ln) (sym un) z0 z1 in
       let t2 : Stands bs (at + 12) (mid ++ (lb ++ pb)) = join bs (at + 12) mid (lb ++ pb) m4 (moved bs (lb ++ pb) (plus at 12 4) tail) in
       let t3 : Stands bs (at + 8) (be4 (number4 (part bs (at + 8) 4)) ++ (mid ++ (lb ++ pb))) = join bs (at + 8) (be4 (number4 (part bs (at + 8) 4))) (mid ++ (lb ++ pb)) (stands4 bs t (at + 8) (omega arith)) (moved bs (mid ++ (lb ++ pb)) (plus at 8 4) t2) in (
-        join bs at (o.form.written s) (be4 (number4 (part bs (at + 8) 4)) ++ (mid ++ (lb ++ pb))) (stamp_stands at s (omega arith) e) (moved bs (be4 (number4 (part bs (at + 8) 4)) ++ (mid ++ (lb ++ pb))) (ap (λ n. at + n) (sym (laws.wide s))) t3),
-        block_long o f laws formed (stated_job o f bs at s) ∙ ap (λ n. 16 + 22 * n + 14 * length ps) l.1 ∙ ap (λ n. 16 + 22 * get_or bs (at + 12) 0 + 14 * n) u.1,
+        join bs at (o.form.written s) (be4 (number4 (part bs (at + 8) 4)) ++ (mid ++ (lb ++ pb))) (form_stands bs t 8 o.form laws at s (omega arith) e) (moved bs (be4 (number4 (part bs (at + 8) 4)) ++ (mid ++ (lb ++ pb))) (ap (λ n. at + n) (sym (laws.wide s))) t3),
+        block_long o f laws formed (stated_job o f bs at s) ∙ ap (λ n. 16 + 22 * n + 14 * length ps) ln ∙ ap (λ n. 16 + 22 * get_or bs (at + 12) 0 + 14 * n) un,
       )
     where
       plus : (a b c : ℕ) → a + (b + c) ≡ a + b + c

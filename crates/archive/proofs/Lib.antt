@@ -9,6 +9,7 @@ pub mod Fields
 pub mod Forth
 pub mod KnownPairs
 pub mod KnownBlocks
+pub mod KnownEntries
 pub mod Long
 pub mod ForthBlocks
 pub mod KnownArchive

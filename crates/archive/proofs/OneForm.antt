@@ -17,6 +17,7 @@ use Rattle.archive.specs.Blocks.{read_blocks}
 use Rattle.archive.specs.Rule.{read_archive}
 use Rattle.archive.specs.Journal.{block_bytes, block_lengths, archive_bytes, stated_records, stated_count, stated_opening, stated_journal}
 use Rattle.archive.specs.Theorems.{OneForm}
+use Rattle.archive.proofs.Long.{values_long}
 use Rattle.archive.proofs.KnownBlocks.{first_says}
 use Rattle.archive.proofs.KnownArchive.{archive_says, inspected_says}
 use Rattle.archive.proofs.Stands.{Stands, join, all_of}
@@ -91,7 +92,7 @@ module _ {S R : Type 0} (o : Order S) (k : RecordKind R) (laws : Formed 8 o.form
       let blks = blocks_stand o k.form laws formed bs t (stated_count bs) 20 (20 + 8 * stated_count bs + 12 * stated_records bs) (stated_records bs) z.end o.least z.blocks in
       let ends = archive_end (stated_count bs) 20 (20 + 8 * stated_count bs + 12 * stated_records bs) (stated_records bs) z.end o.least z.blocks (λ l. sym first ∙ p.closes l) in (
         put_together (stated_records bs) (stated_count bs) z.end (stated_opening o k bs) (stated_journal o k bs) (heading_stands bs t o.number k.number z.marked z.sizes)
-            (subst (λ (m : ℕ). Stands bs 12 (be4 (20 + 8 * stated_count bs) ++ be4 m)) l12 s) blks.0 vals.0 vals.1 blks.1 blks.2 (blks.3 ∙ ends),
+            (subst (λ (m : ℕ). Stands bs 12 (be4 (20 + 8 * stated_count bs) ++ be4 m)) l12 s) blks.0 vals (values_long k.form bs (stated_records bs) (20 + 8 * stated_count bs) z.values) blks.1 blks.2 (blks.3 ∙ ends),
         blks.2 ∙ ap (λ (h : Heading). h.jobs) z.heading,
       )
     where

@@ -1,59 +1,35 @@
 -- What blocks that were read say of the jobs that they state: each is neat under a ticket of four bytes, and no stamp falls.
-use Rattle.std.proofs.Common.{◌≡◌, ℕ, zero, suc, ◌+◌, ◌*◌, ◌<◌, Bool, true, ◌&&◌, List, ◌∷◌, get_or, is_some, Some, None, Ok, Option, Result, sym, refl, ap, ◌∙◌, subst, arith}
-use Rattle.std.specs.Option.{ok_or}
+use Rattle.std.proofs.Common.{◌≡◌, ℕ, zero, suc, ◌+◌, ◌*◌, ◌<◌, true, List, ◌∷◌, get_or, Ok, Option, sym, refl, ap, ◌∙◌, subst, arith}
 use Rattle.std.specs.List.{AllByRecursion}
 use Rattle.kinds.specs.Bytes.{number2, number4, Bytes, part}
 use Rattle.kinds.specs.Forms.{Form}
 use Rattle.kinds.specs.Stamps.{Order, Ordered}
 use Rattle.kinds.specs.Bounds.{NotAfter}
 use Rattle.law.proofs.StampOrder.{le_trans}
-use Rattle.law.specs.Daybook.{Look, Put, AcceptedJob}
+use Rattle.law.specs.Daybook.{AcceptedJob}
 use Rattle.law.specs.Account.{NeverFalls}
 use Rattle.law.specs.Promises.{NeatJob, look_numbers, put_numbers}
-use Rattle.archive.specs.declared.fault.Fault.{Fault}
-use Rattle.archive.specs.declared.fault.Fault.TheVariants.{ValueWrong}
 use Rattle.archive.specs.declared.blocks.Opened.{Opened}
-use Rattle.archive.specs.Faults.{onward}
 use Rattle.archive.specs.Directory.{stated_length}
 use Rattle.archive.specs.Values.{read_values}
 use Rattle.archive.specs.Names.{numbers, names_right}
-use Rattle.archive.specs.Blocks.{stamp_at, all_noted, read_blocks}
-use Rattle.archive.specs.Journal.{seen_look, stated_looks, seen_put, stated_puts, stated_job, seen_job, stated_jobs}
+use Rattle.archive.specs.Blocks.{all_noted, read_blocks}
+use Rattle.archive.specs.Journal.{stated_looks, stated_puts, stated_job, seen_job, stated_jobs}
 use Rattle.archive.proofs.Stands.{bytes_part}
+use Rattle.archive.proofs.KnownEntries.{look_says, put_says}
 use Rattle.archive.proofs.KnownBlocks.{BlockSays, first_says}
 use Rattle.readback.proofs.BackNames.{every}
 use Rattle.readback.proofs.NamesSay.{different, names_say}
 
 module _ {S R : Type 0} (o : Order S) (f : Form R) (bs : List ℕ) where
   -- the looks and the puts that are stated have the numbers that stand there
-  look_numbered : (x at : ℕ) (u : Option S) (p : Option R) (ls : List (Look S R)) (ns : List ℕ) (b : Bool) (rest : Result (Unit {0}) Fault) → (is_some u && b) ≡ true → onward (ok_or p (ValueWrong at)) (λ _. rest) ≡ Ok tt
-      → (b ≡ true → rest ≡ Ok tt → look_numbers ls ≡ ns) → look_numbers (seen_look o f x u p ls) ≡ x ∷ ns
-  look_numbered x at (Some s) (Some v) ls ns b rest h q ih = ap (λ ms. x ∷ ms) (ih h q)
-  look_numbered x at (Some s) None ls ns b rest h q ih = let z : ◌≡◌ {A = ℕ} 0 1 = cc in absurd (omega arith)
-  look_numbered x at None p ls ns b rest h q ih = let z : ◌≡◌ {A = ℕ} 0 1 = cc in absurd (omega arith)
-
   looks_numbered : (m at : ℕ) → all_noted o bs at m ≡ true → read_values f bs (at + 10) 22 m ≡ Ok tt → look_numbers (stated_looks o f bs at m) ≡ numbers bs at 22 m
   looks_numbered zero at h q = refl
-  looks_numbered (suc m) at h q =
-      look_numbered (number2 (part bs at 2)) (at + 10) (stamp_at o bs (at + 2)) (f.read (part bs (at + 10) 12)) (stated_looks o f bs (at + 22) m) (numbers bs (at + 22) 22 m)
-      (all_noted o bs (at + 22) m) (read_values f bs (at + 10 + 22) 22 m) h q (λ x y. looks_numbered m (at + 22) x (subst (λ (i : ℕ). read_values f bs i 22 m ≡ Ok tt) (swap at) y))
-    where
-      swap : (at : ℕ) → at + 10 + 22 ≡ at + 22 + 10
-      swap at = omega arith
-
-  put_numbered : (x at : ℕ) (p : Option R) (ps : List (Put R)) (ns : List ℕ) (rest : Result (Unit {0}) Fault) → onward (ok_or p (ValueWrong at)) (λ _. rest) ≡ Ok tt
-      → (rest ≡ Ok tt → put_numbers ps ≡ ns) → put_numbers (seen_put o f x p ps) ≡ x ∷ ns
-  put_numbered x at (Some v) ps ns rest q ih = ap (λ ms. x ∷ ms) (ih q)
-  put_numbered x at None ps ns rest q ih = let z : ◌≡◌ {A = ℕ} 0 1 = cc in absurd (omega arith)
+  looks_numbered (suc m) at h q = let z = look_says o f bs m at h q in ap look_numbers z.states ∙ ap (λ ns. number2 (part bs at 2) ∷ ns) (looks_numbered m (at + 22) z.noted z.rest)
 
   puts_numbered : (m at : ℕ) → read_values f bs (at + 2) 14 m ≡ Ok tt → put_numbers (stated_puts o f bs at m) ≡ numbers bs at 14 m
   puts_numbered zero at q = refl
-  puts_numbered (suc m) at q =
-      put_numbered (number2 (part bs at 2)) (at + 2) (f.read (part bs (at + 2) 12)) (stated_puts o f bs (at + 14) m) (numbers bs (at + 14) 14 m) (read_values f bs (at + 2 + 14) 14 m) q
-      (λ y. puts_numbered m (at + 14) (subst (λ (i : ℕ). read_values f bs i 14 m ≡ Ok tt) (swap at) y))
-    where
-      swap : (at : ℕ) → at + 2 + 14 ≡ at + 14 + 2
-      swap at = omega arith
+  puts_numbered (suc m) at q = let z = put_says o f bs m at q in ap put_numbers z.states ∙ ap (λ ns. number2 (part bs at 2) ∷ ns) (puts_numbered m (at + 14) z.rest)
 
   -- the job of a block is neat
   job_neat : (n at len : ℕ) (low : S) (h : Opened S) (b : BlockSays o f bs n at len low h) → NeatJob o n (stated_job o f bs at b.stamp)

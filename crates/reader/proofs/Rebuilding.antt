@@ -1,44 +1,33 @@
 -- What the play of an archive leaves is what is rebuilt of the jobs that it states.
-use Rattle.std.proofs.Common.{◌≡◌, ℕ, zero, suc, ◌+◌, ◌*◌, ◌≤◌, Bool, true, false, cond, ◌&&◌, eqb, leb, List, length, take, get_or, Some, None, Ok, Option, Result, refl, sym, ap, ◌∙◌, subst, arith}
+use Rattle.std.proofs.Common.{◌≡◌, ℕ, zero, suc, ◌+◌, ◌*◌, ◌≤◌, Bool, true, false, cond, ◌&&◌, eqb, leb, List, length, take, get_or, Ok, refl, sym, ap, ◌∙◌, subst, arith}
 use Rattle.std.specs.Prelude.{fold}
-use Rattle.std.specs.Option.{ok_or}
 use Rattle.std.proofs.lemmas.Bool.{and_parts, leb-true, le-leb}
 use Rattle.kinds.specs.Bytes.{number2, part}
 use Rattle.kinds.specs.Forms.{Form}
 use Rattle.kinds.specs.Stamps.{Order}
 use Rattle.kinds.specs.Values.{RecordKind}
-use Rattle.law.specs.Daybook.{Put}
-use Rattle.archive.specs.declared.fault.Fault.{Fault}
-use Rattle.archive.specs.declared.fault.Fault.TheVariants.{ValueWrong}
 use Rattle.archive.specs.declared.heading.Heading.{Heading}
-use Rattle.archive.specs.Faults.{onward}
 use Rattle.archive.specs.Lengths.{block_length}
 use Rattle.archive.specs.Directory.{stated_length}
 use Rattle.archive.specs.Values.{read_values, stated_values}
 use Rattle.archive.specs.Blocks.{read_blocks}
 use Rattle.archive.specs.Rule.{read_archive}
-use Rattle.archive.specs.Journal.{seen_put, stated_puts, stated_jobs, stated_records, stated_count, stated_opening}
+use Rattle.archive.specs.Journal.{stated_puts, stated_jobs, stated_records, stated_count, stated_opening}
 use Rattle.archive.specs.Played.{value_in, values_after, block_played, blocks_played, room_right, play_leaves}
+use Rattle.archive.proofs.KnownEntries.{put_says}
 use Rattle.archive.proofs.KnownArchive.{archive_says, opening_long}
 use Rattle.reader.specs.Stated.{stated}
 use Rattle.reader.specs.Rebuilt.{with_puts, with_job, rebuilt, rebuild_leaves}
 use Rattle.reader.proofs.Journal.{CanRead, blocks_met, journal_long}
 
 module _ {S R : Type 0} (o : Order S) (f : Form R) (bs : List ℕ) where
-  put_played : (x place : ℕ) (v : Option R) (rest : Result (Unit {0}) Fault) (vs : List R) (ps : List (Put R)) → onward (ok_or v (ValueWrong place)) (λ _. rest) ≡ Ok tt
-      → (rest ≡ Ok tt) × (with_puts (value_in v vs x) ps ≡ with_puts vs (seen_put o f x v ps))
-  put_played x place (Some w) rest vs ps q = (q, refl)
-  put_played x place None rest vs ps q = let z : ◌≡◌ {A = ℕ} 0 1 = cc in absurd (omega arith)
-
   puts_played : (m at : ℕ) (vs : List R) → read_values f bs (at + 2) 14 m ≡ Ok tt → values_after f bs at vs m ≡ with_puts vs (stated_puts o f bs at m)
   puts_played zero at vs q = refl
   puts_played (suc m) at vs q =
       let x : ℕ = number2 (part bs at 2) in
-      let v : Option R = f.read (part bs (at + 2) 12) in
-      let t = put_played x (at + 2) v (read_values f bs (at + 2 + 14) 14 m) vs (stated_puts o f bs (at + 14) m) q in
-      let e : at + 2 + 14 ≡ at + 14 + 2 = omega arith in
-      let V : ℕ → Type 0 = λ i. read_values f bs i 14 m ≡ Ok tt in
-      puts_played m (at + 14) (value_in v vs x) (subst V e t.0) ∙ t.1
+      let z = put_says o f bs m at q in
+      puts_played m (at + 14) (value_in (f.read (part bs (at + 2) 12)) vs x) z.rest
+      ∙ ap (λ v. with_puts (value_in v vs x) (stated_puts o f bs (at + 14) m)) z.valued ∙ ap (with_puts vs) (sym z.states)
 
   -- the block at a place enters its puts
   block_entered : (at : ℕ) (vs : List R) → CanRead o f bs at → block_played f bs at vs ≡ with_puts vs (stated_puts o f bs (at + 16 + 22 * get_or bs (at + 12) 0) (get_or bs (at + 13) 0))

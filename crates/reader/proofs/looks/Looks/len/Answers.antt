@@ -1,8 +1,8 @@
 use Rattle.std.proofs.Common.{length, sym, ap, ◌∙◌}
-use Rattle.reader.proofs.Lists.{looks_long}
+use Rattle.archive.proofs.KnownEntries.{looks_stated}
 use Rattle.reader.proofs.looks.Looks.len.Goals as goal
 
 pub returns : goal.returns
 returns g c =
     let j = c.self.inside in
-    sym (looks_long g.S.Stamp.kind.order g.R.Record.kind.form j.bytes.now j.left j.at c.self.invariant.noted c.self.invariant.valued) ∙ ap length c.self.view_is
+    sym (looks_stated g.S.Stamp.kind.order g.R.Record.kind.form j.bytes.now j.left j.at c.self.invariant.noted c.self.invariant.valued) ∙ ap length c.self.view_is
