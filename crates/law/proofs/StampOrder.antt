@@ -34,7 +34,7 @@ module _ {S : Type 0} (o : Order S) (laws : Ordered o) where
   le_or_lt a b = ⊎_elim inr inl (cases_Bool (o.before b a))
 
   -- two stamps that are the same have the same stamps after them
-  carry : (a b c : S) → Lt o a b → Same o a c → Lt o c b
+  pub carry : (a b c : S) → Lt o a b → Same o a c → Lt o c b
   carry a b c p e =
       ⊎_elim (λ h. h.0)
       (⊎_elim (λ h. absurd (same_not_before o laws a b (e ∙ h.1) p)) (λ h. absurd (same_not_before o laws a c e (laws.transitive a b c p h.2))))
