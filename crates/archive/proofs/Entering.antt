@@ -11,7 +11,7 @@ use Rattle.archive.specs.Faults.{onward}
 use Rattle.archive.specs.Directory.{stated_length}
 use Rattle.archive.specs.Values.{read_value, read_values, value_first, stated_values}
 use Rattle.archive.specs.Played.{value_in, value_entered, values_after, block_played, blocks_played}
-use Rattle.archive.proofs.Counting.{at_left}
+use Rattle.archive.proofs.Counting.{at_left, met}
 use Rattle.archive.proofs.RowLaws.{row_number}
 
 module _ {R : Type 0} (f : Form R) (bs : List ℕ) where
@@ -19,7 +19,7 @@ module _ {R : Type 0} (f : Form R) (bs : List ℕ) where
   was_some at v (Some w) q = cc
   was_some at v None q = let z : ◌≡◌ {A = ℕ} 0 1 = cc in absurd (omega arith)
 
-  pub stated_more : (at n i : ℕ) (v : R) (vs : List R) → i < n → i < length vs → Ok v ≡ read_value f bs (at + 12 * i)
+  stated_more : (at n i : ℕ) (v : R) (vs : List R) → i < n → i < length vs → Ok v ≡ read_value f bs (at + 12 * i)
       → take (i + 1) (set vs i v) ++ stated_values f bs (at + 12 * (i + 1)) 12 (n - (i + 1)) ≡ take i vs ++ stated_values f bs (at + 12 * i) 12 (n - i)
   stated_more at n i v vs h l e =
       let a : at + 12 * (i + 1) ≡ at + 12 * i + 12 = omega arith in
@@ -29,11 +29,19 @@ module _ {R : Type 0} (f : Form R) (bs : List ℕ) where
       ∙ ap (λ o. take i vs ++ value_first o (stated_values f bs (at + 12 * i + 12) 12 (n - (i + 1)))) (sym (was_some (at + 12 * i) v (f.read (part bs (at + 12 * i) 12)) e))
       ∙ sym (at_left (λ m. take i vs ++ stated_values f bs (at + 12 * i) 12 m) n i h)
 
-  pub values_left : (at n i : ℕ) → i < n
+  values_left : (at n i : ℕ) → i < n
       → read_values f bs (at + 12 * i) 12 (n - i) ≡ onward (read_value f bs (at + 12 * i)) (λ _. read_values f bs (at + 12 * (i + 1)) 12 (n - (i + 1)))
   values_left at n i h =
       let a : at + 12 * i + 12 ≡ at + 12 * (i + 1) = omega arith in
       at_left (read_values f bs (at + 12 * i) 12) n i h ∙ ap (λ m. onward (read_value f bs (at + 12 * i)) (λ _. read_values f bs m 12 (n - (i + 1)))) a
+
+  -- so many of n values were read, and entered at the front of a space
+  abbrev pub Loaded : ℕ → ℕ → ℕ → List R → Type 0
+  Loaded at n i space =
+      (read_values f bs (at + 12 * i) 12 (n - i) ≡ read_values f bs at 12 n) × (take i space ++ stated_values f bs (at + 12 * i) 12 (n - i) ≡ stated_values f bs at 12 n)
+
+  pub loaded_more : (at n i : ℕ) (v : R) (space : List R) → i < n → i < length space → Ok v ≡ read_value f bs (at + 12 * i) → Loaded at n i space → Loaded at n (i + 1) (set space i v)
+  loaded_more at n i v space h l e m = (sym (values_left at n i h ∙ met _ e) ∙ m.0, stated_more at n i v space h l e ∙ m.1)
 
   -- the puts of rows, entered in turn
   pub values_entered : (m at : ℕ) (vs : List R) → fold (value_entered f) vs (first_chunks 14 m (drop at bs)) ≡ values_after f bs at vs m
