@@ -8,7 +8,7 @@ use Rattle.kinds.specs.ByteLaws.{forth2, forth4}
 use Rattle.archive.specs.Heading.{heading_bytes, mark_right, kinds_right, records_in, jobs_in, sizes_right}
 use Rattle.archive.specs.Directory.{stated_length}
 use Rattle.archive.specs.Values.{values_bytes, read_values, value_first, stated_values}
-use Rattle.archive.proofs.Stands.{Stands, join, moved, bytes_part, part_length}
+use Rattle.archive.proofs.Stands.{Stands, join, join_behind, bytes_part, part_length}
 use Rattle.archive.proofs.Fields.{take-listed, stands4, value_met}
 use Rattle.archive.proofs.KnownPairs.{PairSays}
 
@@ -69,5 +69,4 @@ module _ (bs : List ℕ) (t : Bytes bs) where
       let v = value_met at (f.read (part bs at 12)) (read_values f bs (at + 12) 12 n) q in
       let vs : List R = stated_values f bs (at + 12) 12 n in
       subst (λ (p : Option R). Stands bs at (values_bytes f (value_first p vs))) (sym v.1)
-      (join bs at (f.written v.0) (values_bytes f vs) (form_stands 12 f laws at v.0 (omega arith) v.1)
-      (moved bs (values_bytes f vs) (ap (λ i. at + i) (sym (laws.wide v.0))) (values_stand f laws n (at + 12) (omega arith) v.2)))
+      (join_behind bs at 12 (f.written v.0) (values_bytes f vs) (laws.wide v.0) (form_stands 12 f laws at v.0 (omega arith) v.1) (values_stand f laws n (at + 12) (omega arith) v.2))

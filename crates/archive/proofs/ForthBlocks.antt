@@ -14,7 +14,7 @@ use Rattle.archive.proofs.Forth.{pair_stands, form_stands}
 use Rattle.archive.proofs.KnownEntries.{look_says, looks_stated, put_says, puts_stated}
 use Rattle.archive.proofs.KnownBlocks.{first_says}
 use Rattle.archive.proofs.Long.{look_long, put_long, looks_long, block_long}
-use Rattle.archive.proofs.Stands.{Stands, join, moved}
+use Rattle.archive.proofs.Stands.{Stands, join, join_behind, moved}
 use Rattle.archive.proofs.Fields.{take-listed, stands4, stands2, ok_same}
 
 module _ {S R : Type 0} (o : Order S) (f : Form R) (laws : Formed 8 o.form) (formed : Formed 12 f) (bs : List ℕ) (t : Bytes bs) where
@@ -36,8 +36,8 @@ module _ {S R : Type 0} (o : Order S) (f : Form R) (laws : Formed 8 o.form) (for
       let ls : List (Look S R) = stated_looks o f bs (at + 22) m in
       let l : Look S R = record { number = number2 (part bs at 2); saw = record { value = z.value; stamp = z.stamp } } in
       subst (λ (ks : List (Look S R)). Stands bs at (flat_map (look_bytes o f) ks)) (sym z.states)
-      (join bs at (look_bytes o f l) (flat_map (look_bytes o f) ls) (look_stands at z.stamp z.value (omega arith) z.stamped z.valued)
-      (moved bs (flat_map (look_bytes o f) ls) (ap (λ n. at + n) (sym (look_long o f laws formed l))) (looks_stand m (at + 22) (omega arith) z.noted z.rest)))
+      (join_behind bs at 22 (look_bytes o f l) (flat_map (look_bytes o f) ls) (look_long o f laws formed l) (look_stands at z.stamp z.value (omega arith) z.stamped z.valued)
+      (looks_stand m (at + 22) (omega arith) z.noted z.rest))
 
   put_stands : (at : ℕ) (v : R) → at + 14 ≤ length bs → f.read (part bs (at + 2) 12) ≡ Some v → Stands bs at (put_bytes o f (record { number = number2 (part bs at 2); value = v }))
   put_stands at v h q = join bs at (be2 (number2 (part bs at 2))) (f.written v) (stands2 bs t at (omega arith)) (form_stands bs t 12 f formed (at + 2) v (omega arith) q)
@@ -50,8 +50,8 @@ module _ {S R : Type 0} (o : Order S) (f : Form R) (laws : Formed 8 o.form) (for
       let ps : List (Put R) = stated_puts o f bs (at + 14) m in
       let p : Put R = record { number = number2 (part bs at 2); value = z.value } in
       subst (λ (ks : List (Put R)). Stands bs at (flat_map (put_bytes o f) ks)) (sym z.states)
-      (join bs at (put_bytes o f p) (flat_map (put_bytes o f) ps) (put_stands at z.value (omega arith) z.valued)
-      (moved bs (flat_map (put_bytes o f) ps) (ap (λ n. at + n) (sym (put_long o f laws formed p))) (puts_stand m (at + 14) (omega arith) z.rest)))
+      (join_behind bs at 14 (put_bytes o f p) (flat_map (put_bytes o f) ps) (put_long o f laws formed p) (put_stands at z.value (omega arith) z.valued)
+      (puts_stand m (at + 14) (omega arith) z.rest))
 
   small_stands : (at r p : ℕ) → at + 16 ≤ length bs → get_or bs (at + 12) 0 ≡ r → get_or bs (at + 13) 0 ≡ p → get_or bs (at + 14) 0 ≡ 0 → get_or bs (at + 15) 0 ≡ 0 → Stands bs (at + 12) (r ∷ p ∷ 0 ∷ 0 ∷ [])
   small_stands at r p h e0 e1 e2 e3 =
@@ -84,11 +84,11 @@ module _ {S R : Type 0} (o : Order S) (f : Form R) (laws : Formed 8 o.form) (for
       let lb : List ℕ = flat_map (look_bytes o f) ls in
       let pb : List ℕ = flat_map (put_bytes o f) ps in
       let mid : List ℕ = length ls ∷ length ps ∷ 0 ∷ 0 ∷ [] in
-      let tail : Stands bs (at + 16) (lb ++ pb) = join bs (at + 16) lb pb l (moved bs pb (ap (λ n. at + 16 + n) (sym (looks_long o f laws formed ls ∙ ap (λ n. 22 * n) ln))) u) in
+      let tail : Stands bs (at + 16) (lb ++ pb) = join_behind bs (at + 16) (22 * get_or bs (at + 12) 0) lb pb (looks_long o f laws formed ls ∙ ap (λ n. 22 * n) ln) l u in
       let m4 : Stands bs (at + 12) mid = small_stands at (length ls) (length ps) (omega arith) (sym ln) (sym un) z0 z1 in
       let t2 : Stands bs (at + 12) (mid ++ (lb ++ pb)) = join bs (at + 12) mid (lb ++ pb) m4 (moved bs (lb ++ pb) (plus at 12 4) tail) in
       let t3 : Stands bs (at + 8) (be4 (number4 (part bs (at + 8) 4)) ++ (mid ++ (lb ++ pb))) = join bs (at + 8) (be4 (number4 (part bs (at + 8) 4))) (mid ++ (lb ++ pb)) (stands4 bs t (at + 8) (omega arith)) (moved bs (mid ++ (lb ++ pb)) (plus at 8 4) t2) in (
-        join bs at (o.form.written s) (be4 (number4 (part bs (at + 8) 4)) ++ (mid ++ (lb ++ pb))) (form_stands bs t 8 o.form laws at s (omega arith) e) (moved bs (be4 (number4 (part bs (at + 8) 4)) ++ (mid ++ (lb ++ pb))) (ap (λ n. at + n) (sym (laws.wide s))) t3),
+        join_behind bs at 8 (o.form.written s) (be4 (number4 (part bs (at + 8) 4)) ++ (mid ++ (lb ++ pb))) (laws.wide s) (form_stands bs t 8 o.form laws at s (omega arith) e) t3,
         block_long o f laws formed (stated_job o f bs at s) ∙ ap (λ n. 16 + 22 * n + 14 * length ps) ln ∙ ap (λ n. 16 + 22 * get_or bs (at + 12) 0 + 14 * n) un,
       )
     where
@@ -107,7 +107,7 @@ module _ {S R : Type 0} (o : Order S) (f : Form R) (laws : Formed 8 o.form) (for
       let n : ℕ = stated_length bs dir in
       let bb : List ℕ = block_bytes o f (stated_job o f bs at s) in
       let jb : List ℕ = flat_map (block_bytes o f) js in
-      let body : Stands bs at (bb ++ jb) = join bs at bb jb q (moved bs jb (ap (λ i. at + i) (sym l)) ih.1) in
+      let body : Stands bs at (bb ++ jb) = join_behind bs at (stated_length bs dir) bb jb l q ih.1 in
       let rest : Stands bs (dir + 8) (pairs_bytes (at + stated_length bs dir) (block_lengths o f js)) = ih.0 in
       let pairs : Stands bs dir (be4 at ++ (be4 (stated_length bs dir) ++ pairs_bytes (at + stated_length bs dir) (block_lengths o f js))) = join bs dir (be4 at ++ be4 (stated_length bs dir)) (pairs_bytes (at + stated_length bs dir) (block_lengths o f js)) p rest in
       let pairs2 : Stands bs dir (pairs_bytes at (length bb ∷ block_lengths o f js)) = subst (λ (i : ℕ). Stands bs dir (pairs_bytes at (i ∷ block_lengths o f js))) (sym l) pairs in

@@ -14,6 +14,7 @@ use Rattle.archive.specs.Names.{numbers, all_below, apart, names_right}
 use Rattle.archive.specs.Values.{read_values}
 use Rattle.archive.specs.Blocks.{stamp_at, all_noted, front_right, with_stamp, read_front, names_of, read_block, read_blocks}
 use Rattle.archive.proofs.Fields.{guarded, bound, ok_same}
+use Rattle.archive.proofs.Places.{look_values_at, put_values_at}
 use Rattle.archive.proofs.KnownPairs.{PairSays, pair_says}
 
 module _ {S : Type 0} (o : Order S) (bs : List ℕ) where
@@ -97,15 +98,9 @@ module _ {S R : Type 0} (o : Order S) (f : Form R) (bs : List ℕ) where
         below = i.0;
         once = l.0;
         noted = d.1;
-        look_values = subst (λ (i : ℕ). read_values f bs i 22 r ≡ Ok tt) (far1 at) v.1;
-        put_values = subst (λ (i : ℕ). read_values f bs i 14 p ≡ Ok tt) (far2 at r) w.1;
+        look_values = subst (λ (i : ℕ). read_values f bs i 22 r ≡ Ok tt) (look_values_at at) v.1;
+        put_values = subst (λ (i : ℕ). read_values f bs i 14 p ≡ Ok tt) (put_values_at at r) w.1;
       }
-    where
-      far1 : (at : ℕ) → at + 26 ≡ at + 16 + 10
-      far1 at = omega arith
-
-      far2 : (at r : ℕ) → at + 18 + 22 * r ≡ at + 16 + 22 * r + 2
-      far2 at r = omega arith
 
   -- the first of some blocks, and the others behind it
   pub record FirstSays (dir at n m end : ℕ) (low : S) : Type 0 where

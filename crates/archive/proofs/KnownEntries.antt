@@ -8,6 +8,7 @@ use Rattle.archive.specs.Values.{read_values}
 use Rattle.archive.specs.Blocks.{stamp_at, all_noted}
 use Rattle.archive.specs.Journal.{seen_look, stated_looks, seen_put, stated_puts}
 use Rattle.archive.proofs.Fields.{value_met}
+use Rattle.archive.proofs.Places.{next_look_value, next_put_value}
 
 -- where a stamp and what follows it are right, both are
 stamp_met : {S : Type 0} (u : Option S) (b : Bool) → (is_some u && b) ≡ true → (s : S) × (u ≡ Some s) × (b ≡ true)
@@ -42,12 +43,9 @@ module _ {S R : Type 0} (o : Order S) (f : Form R) (bs : List ℕ) where
         value = v.0;
         valued = v.1;
         noted = s.2;
-        rest = subst (λ (i : ℕ). read_values f bs i 22 m ≡ Ok tt) (swap at) v.2;
+        rest = subst (λ (i : ℕ). read_values f bs i 22 m ≡ Ok tt) (next_look_value at) v.2;
         states = ap (λ u. seen_look o f (number2 (part bs at 2)) u (f.read (part bs (at + 10) 12)) ls) s.1 ∙ ap (λ p. seen_look o f (number2 (part bs at 2)) (Some s.0) p ls) v.1;
       }
-    where
-      swap : (at : ℕ) → at + 10 + 22 ≡ at + 22 + 10
-      swap at = omega arith
 
   -- as many looks are stated as were read
   pub looks_stated : (m at : ℕ) → all_noted o bs at m ≡ true → read_values f bs (at + 10) 22 m ≡ Ok tt → length (stated_looks o f bs at m) ≡ m
@@ -67,12 +65,9 @@ module _ {S R : Type 0} (o : Order S) (f : Form R) (bs : List ℕ) where
       record {
         value = v.0;
         valued = v.1;
-        rest = subst (λ (i : ℕ). read_values f bs i 14 m ≡ Ok tt) (swap at) v.2;
+        rest = subst (λ (i : ℕ). read_values f bs i 14 m ≡ Ok tt) (next_put_value at) v.2;
         states = ap (λ p. seen_put o f (number2 (part bs at 2)) p (stated_puts o f bs (at + 14) m)) v.1;
       }
-    where
-      swap : (at : ℕ) → at + 2 + 14 ≡ at + 14 + 2
-      swap at = omega arith
 
   -- as many puts are stated as were read
   pub puts_stated : (m at : ℕ) → read_values f bs (at + 2) 14 m ≡ Ok tt → length (stated_puts o f bs at m) ≡ m

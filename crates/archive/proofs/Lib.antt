@@ -6,6 +6,7 @@ mod Plays
 pub mod Entering
 pub mod Stands
 pub mod Fields
+pub mod Places
 pub mod Forth
 pub mod KnownPairs
 pub mod KnownBlocks

@@ -34,6 +34,13 @@ module _ (bs : List ℕ) where
   second at xs ys p =
       ap (take (length ys)) (sym (drop-drop (length xs) at bs)) ∙ sym (drop-take (length xs) (length ys) (drop at bs)) ∙ ap (drop (length xs)) (whole at xs ys p) ∙ drop_at xs ys (length xs) refl
 
+  -- what stands behind a front of a length, and such a front with what stands behind it
+  pub behind : (at n : ℕ) (xs ys : List ℕ) → length xs ≡ n → Stands bs at (xs ++ ys) → Stands bs (at + n) ys
+  behind at n xs ys e p = moved ys (ap (λ m. at + m) e) (second at xs ys p)
+
+  pub join_behind : (at n : ℕ) (xs ys : List ℕ) → length xs ≡ n → Stands bs at xs → Stands bs (at + n) ys → Stands bs at (xs ++ ys)
+  join_behind at n xs ys e p q = join at xs ys p (moved ys (ap (λ m. at + m) (sym e)) q)
+
   pub bytes_part : Bytes bs → (at w : ℕ) → Bytes (part bs at w)
   bytes_part b at w k =
       ⊎_elim (λ h. let e : get_or (part bs at w) k 0 ≡ get_or bs (at + k) 0 = get_or-take w (drop at bs) k 0 h ∙ get_or-drop at bs k 0 in let t = b (at + k) in omega arith)

@@ -16,6 +16,7 @@ use Rattle.archive.specs.Blocks.{stamp_at, front_right, with_stamp, read_front, 
 use Rattle.archive.specs.Journal.{block_bytes, stated_looks, stated_puts, stated_job}
 use Rattle.archive.proofs.Fields.{reads4}
 use Rattle.archive.proofs.Long.{block_long}
+use Rattle.archive.proofs.Places.{look_values_at, put_values_at}
 use Rattle.readback.specs.ReadsBack.{Each, AlikeLook, AlikePut, AlikeJob}
 use Rattle.readback.proofs.BackFields.{byte_at, ReadAs, reads_form}
 use Rattle.readback.proofs.BackRows.{LooksBack, PutsBack, looks_back, puts_back}
@@ -118,14 +119,8 @@ module _ {S R : Type 0} (o : Order S) (f : Form R) (bs : List ℕ) where
     block_there : read_block o f bs n at (length_of a) low ≡ Ok (opened stamp_there.value (length a.looks) (length a.puts))
     block_there =
         block_met n at (length_of a) low (opened stamp_there.value (length a.looks) (length a.puts)) front_there names_there
-        (ap (λ m. read_values f bs m 22 (length a.looks)) (far1 at) ∙ looks_read.values)
-        (ap (λ m. read_values f bs m 14 (length a.puts)) (far2 at (length a.looks)) ∙ puts_read.values)
-      where
-        far1 : (at : ℕ) → at + 26 ≡ at + 16 + 10
-        far1 at = omega arith
-
-        far2 : (at r : ℕ) → at + 18 + 22 * r ≡ at + 16 + 22 * r + 2
-        far2 at r = omega arith
+        (ap (λ m. read_values f bs m 22 (length a.looks)) (look_values_at at) ∙ looks_read.values)
+        (ap (λ m. read_values f bs m 14 (length a.puts)) (put_values_at at (length a.looks)) ∙ puts_read.values)
 
     job_stated : AlikeJob o f (stated_job o f bs at stamp_there.value) a
     job_stated =

@@ -14,7 +14,7 @@ use Rattle.archive.specs.Heading.{heading_bytes, mark_right, kinds_right, record
 use Rattle.archive.specs.Directory.{pairs_bytes}
 use Rattle.archive.specs.Values.{values_bytes}
 use Rattle.archive.specs.Journal.{block_bytes, block_lengths, archive_bytes, stated_records, stated_count}
-use Rattle.archive.proofs.Stands.{Stands, first, second, of_all, moved}
+use Rattle.archive.proofs.Stands.{Stands, first, second, of_all, moved, behind}
 use Rattle.archive.proofs.Forth.{values_length}
 use Rattle.archive.proofs.OneForm.{pairs_long}
 use Rattle.readback.specs.Sound.{Orderly}
@@ -112,6 +112,6 @@ module _ {S R : Type 0} (o : Order S) (k : RecordKind R) (formed : Written k) (v
         opening_pair = first bytes 12 (be4 (20 + 8 * length jobs) ++ be4 (12 * length values)) rest p;
         job_pairs = second bytes 12 (be4 (20 + 8 * length jobs) ++ be4 (12 * length values)) rest p;
         laid_values = first bytes (20 + 8 * length jobs) (values_bytes k.form values) blocks behind_pairs;
-        laid_jobs = moved bytes blocks (ap (λ m. 20 + 8 * length jobs + m) v) (second bytes (20 + 8 * length jobs) (values_bytes k.form values) blocks behind_pairs);
+        laid_jobs = behind bytes (20 + 8 * length jobs) (12 * length values) (values_bytes k.form values) blocks v behind_pairs;
         long = all_long;
       }

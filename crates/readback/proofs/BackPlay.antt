@@ -16,7 +16,7 @@ use Rattle.archive.specs.Laying.{laid_over}
 use Rattle.archive.specs.Blocks.{read_front}
 use Rattle.archive.specs.Journal.{look_bytes, put_bytes}
 use Rattle.archive.specs.Play.{look_borne, read_look, read_looks, put_in, puts_after, play_jobs}
-use Rattle.archive.proofs.Stands.{Stands, first, second, moved}
+use Rattle.archive.proofs.Stands.{Stands, first, second, behind}
 use Rattle.archive.proofs.Fields.{reads2, guarded, bound}
 use Rattle.readback.specs.Sound.{StandsAlike, BorneOutAlike}
 use Rattle.archive.proofs.Long.{look_long, put_long}
@@ -48,7 +48,7 @@ module _ {S R : Type 0} (o : Order S) (f : Form R) (laws : Formed 8 o.form) (for
   looks_met standing table h [] at k e p = refl
   looks_met standing table h (l ∷ ls) at k e p =
       let here = first bs at (look_bytes o f l) (flat_map (look_bytes o f) ls) p in
-      let rest = moved bs (flat_map (look_bytes o f) ls) (ap (λ m. at + m) (look_long o f laws formed l)) (second bs at (look_bytes o f l) (flat_map (look_bytes o f) ls) p) in
+      let rest = behind bs at 22 (look_bytes o f l) (flat_map (look_bytes o f) ls) (look_long o f laws formed l) p in
       ap (λ r. onward r (λ _. read_looks bs (at + 22) table (length ls))) (look_met standing table h at l k.0 e.0 here) ∙ looks_met standing table h ls (at + 22) k.1 e.1 rest
 
   -- puts, entered in turn, leave what stands after them
@@ -67,7 +67,7 @@ module _ {S R : Type 0} (o : Order S) (f : Form R) (laws : Formed 8 o.form) (for
     puts_entered [] at standing table h k d p = h
     puts_entered (q ∷ ps) at standing table h k d p =
         let here = first bs at (put_bytes o f q) (flat_map (put_bytes o f) ps) p in
-        let rest = moved bs (flat_map (put_bytes o f) ps) (ap (λ m. at + m) (put_long o f laws formed q)) (second bs at (put_bytes o f q) (flat_map (put_bytes o f) ps) p) in
+        let rest = behind bs at 14 (put_bytes o f q) (flat_map (put_bytes o f) ps) (put_long o f laws formed q) p in
         let one : Held o f n (one_put s q standing) (row_put o f s q table) = held_put o f laws formed n s q k.0 standing table h in
         let i = puts_entered ps (at + 14) (one_put s q standing) (row_put o f s q table) one k.1 d.1 rest in
         subst (λ (t : List ℕ). Held o f n (λ x. under s (put_of x (q ∷ ps)) (standing x)) (puts_after bs block (at + 14) t (length ps))) (sym (put_entered at table q h.long k.0 here))
@@ -119,7 +119,7 @@ module _ {S R : Type 0} (o : Order S) (f : Form R) (laws : Formed 8 o.form) (for
   looks_show standing table h [] at k p q = tt
   looks_show standing table h (l ∷ ls) at k p q =
       let here = first bs at (look_bytes o f l) (flat_map (look_bytes o f) ls) p in
-      let rest = moved bs (flat_map (look_bytes o f) ls) (ap (λ m. at + m) (look_long o f laws formed l)) (second bs at (look_bytes o f l) (flat_map (look_bytes o f) ls) p) in
+      let rest = behind bs at 22 (look_bytes o f l) (flat_map (look_bytes o f) ls) (look_long o f laws formed l) p in
       let b = bound (read_look bs at table) (λ _. read_looks bs (at + 22) table (length ls)) tt q in
       (look_shows standing table h at l k.0 here b.1, looks_show standing table h ls (at + 22) k.1 rest b.2)
 

@@ -14,8 +14,9 @@ use Rattle.archive.specs.Names.{numbers}
 use Rattle.archive.specs.Blocks.{stamp_at, all_noted}
 use Rattle.archive.specs.Journal.{look_bytes, put_bytes, seen_look, stated_looks, seen_put, stated_puts}
 use Rattle.archive.proofs.Long.{look_long, put_long}
-use Rattle.archive.proofs.Stands.{Stands, first, second, moved}
+use Rattle.archive.proofs.Stands.{Stands, first, second, moved, behind}
 use Rattle.archive.proofs.Fields.{reads2}
+use Rattle.archive.proofs.Places.{next_look_value, next_put_value}
 use Rattle.readback.specs.ReadsBack.{Each, AlikeLook, AlikePut}
 use Rattle.readback.proofs.BackFields.{ReadAs, reads_form}
 
@@ -36,7 +37,7 @@ module _ {R : Type 0} (f : Form R) (bs : List ℕ) where
   values_back formed [] at p = record { read = refl; stated = tt }
   values_back formed (v ∷ vs) at p =
       let here = first bs at (f.written v) (values_bytes f vs) p in
-      let rest = moved bs (values_bytes f vs) (ap (λ m. at + m) (formed.wide v)) (second bs at (f.written v) (values_bytes f vs) p) in
+      let rest = behind bs at 12 (f.written v) (values_bytes f vs) (formed.wide v) p in
       value_more at v vs (reads_form 12 f formed bs at v here) (values_back formed vs (at + 12) rest)
 
 module _ {S R : Type 0} (o : Order S) (f : Form R) (bs : List ℕ) where
@@ -62,13 +63,10 @@ module _ {S R : Type 0} (o : Order S) (f : Form R) (bs : List ℕ) where
       ∙ ap (λ v. seen_look o f l.number (Some b.stamp.value) v rest) b.value.is in
       record {
         noted = ap (λ s. is_some s && all_noted o bs (at + 22) (length ls)) b.stamp.is ∙ i.noted;
-        values = ap (λ v. onward (ok_or v (ValueWrong (at + 10))) (λ _. read_values f bs (at + 10 + 22) 22 (length ls))) b.value.is ∙ ap (λ m. read_values f bs m 22 (length ls)) (swap at) ∙ i.values;
+        values = ap (λ v. onward (ok_or v (ValueWrong (at + 10))) (λ _. read_values f bs (at + 10 + 22) 22 (length ls))) b.value.is ∙ ap (λ m. read_values f bs m 22 (length ls)) (next_look_value at) ∙ i.values;
         named = ap (λ x. x ∷ numbers bs (at + 22) 22 (length ls)) b.number ∙ ap (λ xs. l.number ∷ xs) i.named;
         stated = subst (λ xs. Each (AlikeLook o f) xs (l ∷ ls)) (sym seen) (record { number = refl; stamp = b.stamp.alike; value = b.value.alike }, i.stated);
       }
-    where
-      swap : (at : ℕ) → at + 10 + 22 ≡ at + 22 + 10
-      swap at = omega arith
 
   record PutBack (at : ℕ) (p : Put R) : Type 0 where
     number : number2 (part bs at 2) ≡ p.number
@@ -85,13 +83,10 @@ module _ {S R : Type 0} (o : Order S) (f : Form R) (bs : List ℕ) where
       let seen : seen_put o f (number2 (part bs at 2)) (f.read (part bs (at + 2) 12)) rest ≡ record { number = p.number; value = b.value.value } ∷ rest
       = ap (λ x. seen_put o f x (f.read (part bs (at + 2) 12)) rest) b.number ∙ ap (λ v. seen_put o f p.number v rest) b.value.is in
       record {
-        values = ap (λ v. onward (ok_or v (ValueWrong (at + 2))) (λ _. read_values f bs (at + 2 + 14) 14 (length ps))) b.value.is ∙ ap (λ m. read_values f bs m 14 (length ps)) (swap at) ∙ i.values;
+        values = ap (λ v. onward (ok_or v (ValueWrong (at + 2))) (λ _. read_values f bs (at + 2 + 14) 14 (length ps))) b.value.is ∙ ap (λ m. read_values f bs m 14 (length ps)) (next_put_value at) ∙ i.values;
         named = ap (λ x. x ∷ numbers bs (at + 14) 14 (length ps)) b.number ∙ ap (λ xs. p.number ∷ xs) i.named;
         stated = subst (λ xs. Each (AlikePut f) xs (p ∷ ps)) (sym seen) (record { number = refl; value = b.value.alike }, i.stated);
       }
-    where
-      swap : (at : ℕ) → at + 2 + 14 ≡ at + 14 + 2
-      swap at = omega arith
 
   module _ (laws : Formed 8 o.form) (formed : Formed 12 f) where
     -- the value of a look, and its stamp, stand behind its number
@@ -115,7 +110,7 @@ module _ {S R : Type 0} (o : Order S) (f : Form R) (bs : List ℕ) where
     looks_back n b [] at h p = record { noted = refl; values = refl; named = refl; stated = tt }
     looks_back n b (l ∷ ls) at h p =
         let here = first bs at (look_bytes o f l) (flat_map (look_bytes o f) ls) p in
-        let rest = moved bs (flat_map (look_bytes o f) ls) (ap (λ m. at + m) (look_long o f laws formed l)) (second bs at (look_bytes o f l) (flat_map (look_bytes o f) ls) p) in
+        let rest = behind bs at 22 (look_bytes o f l) (flat_map (look_bytes o f) ls) (look_long o f laws formed l) p in
         let t = h.0 in
         look_more at l ls (look_back at l (omega arith) here) (looks_back n b ls (at + 22) h.1 rest)
 
@@ -130,6 +125,6 @@ module _ {S R : Type 0} (o : Order S) (f : Form R) (bs : List ℕ) where
     puts_back n b [] at h q = record { values = refl; named = refl; stated = tt }
     puts_back n b (p ∷ ps) at h q =
         let here = first bs at (put_bytes o f p) (flat_map (put_bytes o f) ps) q in
-        let rest = moved bs (flat_map (put_bytes o f) ps) (ap (λ m. at + m) (put_long o f laws formed p)) (second bs at (put_bytes o f p) (flat_map (put_bytes o f) ps) q) in
+        let rest = behind bs at 14 (put_bytes o f p) (flat_map (put_bytes o f) ps) (put_long o f laws formed p) q in
         let t = h.0 in
         put_more at p ps (put_back at p (omega arith) here) (puts_back n b ps (at + 14) h.1 rest)

@@ -17,7 +17,7 @@ use Rattle.archive.specs.Laying.{laid_over}
 use Rattle.archive.specs.Values.{values_bytes}
 use Rattle.archive.specs.Play.{opening_table}
 use Rattle.archive.proofs.Laid.{laid_long}
-use Rattle.archive.proofs.Stands.{Stands, first, second, moved}
+use Rattle.archive.proofs.Stands.{Stands, first, behind}
 
 -- the parts of bytes over which others are laid
 module _ (at : ℕ) (xs d : List ℕ) (h : at + length xs ≤ length d) where
@@ -114,7 +114,7 @@ module _ {S R : Type 0} (o : Order S) (f : Form R) (laws : Formed 8 o.form) (for
   opening_rows bs [] at p = refl
   opening_rows bs (v ∷ vs) at p =
       let here : part bs at 12 ≡ f.written v = subst (λ (m : ℕ). part bs at m ≡ f.written v) (formed.wide v) (first bs at (f.written v) (values_bytes f vs) p) in
-      let next : Stands bs (at + 12) (values_bytes f vs) = moved bs (values_bytes f vs) (ap (λ m. at + m) (formed.wide v)) (second bs at (f.written v) (values_bytes f vs) p) in
+      let next : Stands bs (at + 12) (values_bytes f vs) = behind bs at 12 (f.written v) (values_bytes f vs) (formed.wide v) p in
       ap (λ xs. (o.form.written o.least ++ xs) ++ opening_table (o.form.written o.least) bs (at + 12) (length vs)) here
       ∙ ap (λ xs. first_row v ++ xs) (opening_rows bs vs (at + 12) next)
 
