@@ -68,29 +68,35 @@ module _ {S R : Type 0} (k : Kind S) (laws : Lawful k) (values : List R) (jobs :
     inside_row : (x : ℕ) (row : ImageRow S R) → slice_get i.rows x ≡ Some row → x < length values
     inside_row x row e = let l = slice_get_within i.rows x row e in omega arith
 
+    -- an entry at the end of the sheet, with a lower bound that is not before the old one
+    push_kept : {A : Type 0} (a : A) (e : Entry S R) (lower s : S) → Le k.order w.lower lower → find e.number w.entries ≡ None → e.number < length values → sheet_room w ≡ None → k.pick lower w.upper ≡ Some s
+        → EntryOk k.order values jobs top (shown w.image) lower w.upper e → Kept w (record { answer = Ok a; work = bounded_below w lower (w.entries ++ (e ∷ [])) })
+    push_kept a e lower s up f inside room p h =
+        record {
+          keeps = record {
+            stands = ok.stands;
+            entries = All-push (EntryOk k.order values jobs top (shown w.image) lower w.upper) w.entries e
+                (sheet_lower k.order laws.ordered values jobs top (shown w.image) w.lower lower w.upper up w.entries ok.entries) h;
+            distinct = distinct_push w.entries e ok.distinct f;
+            inside = All-push (λ (a : Entry S R). a.number < length values) w.entries e ok.inside inside;
+            few = push_few room e;
+            place = inr (inr (room_if (k.pick lower w.upper) s p));
+          };
+          grows = push_grows e;
+          unaltered = λ r q. not_err q;
+        }
+
     -- look
     look_new_kept : (x : ℕ) (row : ImageRow S R) → i.number ≡ w.image → slice_get i.rows x ≡ Some row → find x w.entries ≡ None → sheet_room w ≡ None → (p : Option S) → k.pick (look_lower k w row) w.upper ≡ p → Kept w (if_room p w (record { answer = Ok row.value; work = bounded_below w (look_lower k w row) (w.entries ++ (looked x row ∷ [])) }))
     look_new_kept x row n e f room None p = refused_kept w NoRoom ok
     look_new_kept x row n e f room (Some s) p =
-        record {
-          keeps = record {
-            stands = ok.stands;
-            entries = All-push (EntryOk k.order values jobs top (shown w.image) (look_lower k w row) w.upper) w.entries (looked x row)
-                (sheet_lower k.order laws.ordered values jobs top (shown w.image) w.lower (look_lower k w row) w.upper (later_left k.order laws.ordered w.lower row.write) w.entries ok.entries)
-                (λ q. record {
-                  origin = origin w.image ok.stands x (row_stood row) shown_row;
-                  low = later_right k.order laws.ordered w.lower row.write;
-                  stays = λ q. shown_row;
-                  shuts = λ q. absurd (true≢false q);
-                });
-            distinct = distinct_push w.entries (looked x row) ok.distinct f;
-            inside = All-push (λ (a : Entry S R). a.number < length values) w.entries (looked x row) ok.inside (inside_row x row e);
-            few = push_few room (looked x row);
-            place = inr (inr (room_if (k.pick (look_lower k w row) w.upper) s p));
-          };
-          grows = push_grows (looked x row);
-          unaltered = λ r q. not_err q;
-        }
+        push_kept row.value (looked x row) (look_lower k w row) s (later_left k.order laws.ordered w.lower row.write) f (inside_row x row e) room p
+        (λ q. record {
+          origin = origin w.image ok.stands x (row_stood row) shown_row;
+          low = later_right k.order laws.ordered w.lower row.write;
+          stays = λ q. shown_row;
+          shuts = λ q. absurd (true≢false q);
+        })
       where
         shown_row : shown w.image x ≡ Some (row_stood row)
         shown_row = ap (λ m. shown m x) (sym n) ∙ shows x ∙ ap (option_map row_stood) e
@@ -155,20 +161,7 @@ module _ {S R : Type 0} (k : Kind S) (laws : Lawful k) (values : List R) (jobs :
     put_new_kept x v row e f room None p = put_refused x v NoRoom
     put_new_kept x v row e f room (Some s) p =
         record {
-          kept = record {
-            keeps = record {
-              stands = ok.stands;
-              entries = All-push (EntryOk k.order values jobs top (shown w.image) (put_lower k w row) w.upper) w.entries (put_unseen x row v)
-                  (sheet_lower k.order laws.ordered values jobs top (shown w.image) w.lower (put_lower k w row) w.upper (put_up row) w.entries ok.entries)
-                  (λ q. absurd (false≢true q));
-              distinct = distinct_push w.entries (put_unseen x row v) ok.distinct f;
-              inside = All-push (λ (a : Entry S R). a.number < length values) w.entries (put_unseen x row v) ok.inside (inside_row x row e);
-              few = push_few room (put_unseen x row v);
-              place = inr (inr (room_if (k.pick (put_lower k w row) w.upper) s p));
-            };
-            grows = push_grows (put_unseen x row v);
-            unaltered = λ r q. not_err q;
-          };
+          kept = push_kept tt (put_unseen x row v) (put_lower k w row) s (put_up row) f (inside_row x row e) room p (λ q. absurd (false≢true q));
           line = λ u q. put_new_line x row v w.entries f;
         }
 
