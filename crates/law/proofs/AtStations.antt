@@ -32,9 +32,6 @@ not_ok e = let z : ◌≡◌ {A = ℕ} 0 1 = cc in absurd (let y : ⊥ = omega a
 pub not_err : {A C : Type 0} {r : Refusal} {v : A} → Ok v ≡ Err r → C
 not_err e = not_ok (sym e)
 
-room_if : {S : Type 0} (p : Option S) (s : S) → p ≡ Some s → is_some p ≡ true
-room_if p s e = ap is_some e
-
 module _ {S R : Type 0} (k : Kind S) (laws : Lawful k) (values : List R) (jobs : List (AcceptedJob S R)) (top : ℕ → S) (shown : ℕ → ℕ → Option (Stood S R)) (cycle : ℕ) where
   abbrev pub Good : Work S R → Type 0
   Good w = JobOk k values jobs top shown cycle w
@@ -57,14 +54,6 @@ module _ {S R : Type 0} (k : Kind S) (laws : Lawful k) (values : List R) (jobs :
   refused_kept w r ok = record { keeps = ok; grows = omega arith; unaltered = λ q e. refl }
 
   module _ (w : Work S R) (i : Image S R) (ok : Good w) (size : length i.rows ≡ length values) (shows : (x : ℕ) → shown i.number x ≡ option_map row_stood (slice_get i.rows x)) (origin : (n : ℕ) → n ≤ cycle → (x : ℕ) (t : Stood S R) → shown n x ≡ Some t → Origin k.order values jobs x t) where
-    push_few : sheet_room w ≡ None → (e : Entry S R) → length (w.entries ++ (e ∷ [])) ≤ 16
-    push_few h e =
-        let l = leb-false 16 (length w.entries) (refused_none (leb 16 (length w.entries)) SheetFull None h).0 in
-        simp length-append (omega arith)
-
-    push_grows : (e : Entry S R) → length w.entries ≤ length (w.entries ++ (e ∷ []))
-    push_grows e = simp length-append (omega arith)
-
     inside_row : (x : ℕ) (row : ImageRow S R) → slice_get i.rows x ≡ Some row → x < length values
     inside_row x row e = let l = slice_get_within i.rows x row e in omega arith
 
@@ -79,10 +68,10 @@ module _ {S R : Type 0} (k : Kind S) (laws : Lawful k) (values : List R) (jobs :
                 (sheet_lower k.order laws.ordered values jobs top (shown w.image) w.lower lower w.upper up w.entries ok.entries) h;
             distinct = distinct_push w.entries e ok.distinct f;
             inside = All-push (λ (a : Entry S R). a.number < length values) w.entries e ok.inside inside;
-            few = push_few room e;
-            place = inr (inr (room_if (k.pick lower w.upper) s p));
+            few = let l = leb-false 16 (length w.entries) (refused_none (leb 16 (length w.entries)) SheetFull None room).0 in simp length-append (omega arith);
+            place = inr (inr (ap is_some p));
           };
-          grows = push_grows e;
+          grows = simp length-append (omega arith);
           unaltered = λ r q. not_err q;
         }
 
@@ -195,7 +184,7 @@ module _ {S R : Type 0} (k : Kind S) (laws : Lawful k) (values : List R) (jobs :
       where
         by : (p : Option S) → k.pick (put_lower k w row) w.upper ≡ p → PutKept x v (if_room p w (record { answer = Ok tt; work = bounded_below w (put_lower k w row) (put_on x v w.entries) }))
         by None p = put_refused x v NoRoom
-        by (Some s) p = put_on_kept x v e f (put_lower k w row) (put_up row) (inr (inr (room_if (k.pick (put_lower k w row) w.upper) s p)))
+        by (Some s) p = put_on_kept x v e f (put_lower k w row) (put_up row) (inr (inr (ap is_some p)))
 
     put_found_kept : (x : ℕ) (v : R) (row : ImageRow S R) → slice_get i.rows x ≡ Some row → (f : Option (Entry S R)) → find x w.entries ≡ f → PutKept x v (put_found k f w x v row)
     put_found_kept x v row e (Some f) h = put_again_kept x v row f h f.put
@@ -290,7 +279,7 @@ module _ {S R : Type 0} (k : Kind S) (laws : Lawful k) (values : List R) (jobs :
                   (in_all (λ (e : Entry S R). (closed_by (first_write i) e).number < length values) w.entries
                   (λ e m. subst (λ n. n < length values) (sym (closed_number (first_write i) e)) (all_in (λ (e : Entry S R). e.number < length values) m ok.inside)));
               few = let l = closed_length (first_write i) w.entries in let m = ok.few in omega arith;
-              place = inr (inr (room_if (k.pick (tune_lower k w i) (tune_upper k w i)) s e));
+              place = inr (inr (ap is_some e));
             };
             grows = let l = closed_length (first_write i) w.entries in omega arith;
             unaltered = λ r q. not_err q;
