@@ -65,11 +65,12 @@ struct Stop {
 }
 
 // Carries out the lines of an input, up to the first that is no call.
-fn run_lines(session: &mut Session, input: &[u8]) -> Result<(), Stop>
+fn run_lines(heap: Global, session: &mut Session, input: &[u8]) -> Result<(), Stop>
     ensures { IfErr result (λ s. (1 ≤ s.line) × (s.line ≤ length (lines_of input.now))) }
 {
+    let mut words = Vec::new(heap);
     for (i, line) in Lines(input).enumerate() {
-        if let Err(fault) = session.carry_out(line) {
+        if let Err(fault) = session.carry_out(&mut words, line) {
             let line = i + 1;
             return Err(Stop { line, fault });
         }
@@ -117,7 +118,7 @@ pub fn run(heap: Global, input: &[u8]) -> Result<Printout, AllocError>
         });
     }
     let mut session = Session::new(heap);
-    let ended = run_lines(&mut session, input);
+    let ended = run_lines(heap, &mut session, input);
     let (log, jobs) = session.close();
     finish(log, ended, jobs).map_err(|_| AllocError)
 }

@@ -19,7 +19,7 @@ use schedule_desk::log::Log;
 use schedule_text::answer::answer;
 use schedule_text::line::is_passed_over;
 use schedule_text::parse::parse as parse_on_kinds;
-use schedule_text::words::words;
+use schedule_text::words::read_words;
 use std::alloc::Global;
 use std::fmt::Write;
 use std::mem;
@@ -213,16 +213,20 @@ impl Session {
         }
     }
 
-    // Carries out a line, unless it is passed over.
-    pub(crate) fn carry_out(&mut self, line: &[u8]) -> Result<(), Fault> {
-        let words = words(self.heap, line)?;
-        if is_passed_over(&words) {
+    // Carries out a line, unless it is passed over. Its words go to a list that serves every line.
+    pub(crate) fn carry_out<'a>(
+        &mut self,
+        words: &mut Vec<&'a [u8]>,
+        line: &'a [u8],
+    ) -> Result<(), Fault> {
+        read_words(words, line)?;
+        if is_passed_over(words) {
             return Ok(());
         }
         match words.as_slice() {
-            [b"pick" | b"form" | b"read", ..] => self.answer_on_kinds(&words),
+            [b"pick" | b"form" | b"read", ..] => self.answer_on_kinds(words),
             [b"found", rest @ ..] => self.found(rest),
-            _ => self.obey(&words),
+            _ => self.obey(words),
         }
     }
 

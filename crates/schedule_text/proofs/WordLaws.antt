@@ -1,7 +1,12 @@
 -- The words of a line, as the parts between spaces that are not empty.
-use Rattle.std.proofs.Common.{◌≡◌, ℕ, Bool, true, false, cond, not, ◌==◌, List, [], ◌∷◌, ◌++◌, length, refl, ap, sym, ◌∙◌, append_assoc, append-nil, arith}
+use Rattle.std.proofs.Common.{◌≡◌, ℕ, Bool, true, false, cond, not, ◌==◌, List, [], ◌∷◌, ◌++◌, map, length, Option, Result, refl, ap, sym, ◌∙◌, append_assoc, append-nil, arith}
 use Rattle.std.proofs.lemmas.Bool.{ne_eqb}
 use Rattle.std.specs.List.{filter, slice_split, onto_first}
+use Rattle.std.specs.Iterator.{Drains, Yields}
+use Rattle.std.specs.Result.{OnOk, MatchResult}
+use Rattle.std.proofs.lemmas.Iterator.{YieldsList}
+use Rattle.std.proofs.lemmas.Iterator.Consumers.{YieldsList-at}
+use Rattle.std.proofs.lemmas.Iterator.Adapters.{fact_from_extend}
 use Rattle.schedule_text.specs.Words.{ended, words_on, words_of}
 
 abbrev pub has_letters : List ℕ → Bool
@@ -39,3 +44,9 @@ words_from begun (c ∷ cs) = by (c == 32) (words_from [] cs) (words_from (begun
 
 pub words_between : (line : List ℕ) → filter has_letters (between_spaces line) ≡ words_of line
 words_between line = sym (onto_none (between_spaces line)) ∙ words_from [] line
+
+-- reads `extend` at `Ok` where it was passed a chain s, and v reads each item
+pub map_from_extend : {T A B E Q : Type 0} {steps : T → Option A → T → Type 0} {v : A → B} {all : List B} {P : List A → Type 0} {s : T} (r : Result (Unit {0}) E)
+    → ((it : T) × (xs : List A) × (it ≡ s) × P xs × MatchResult r (λ _. Drains steps it xs) (λ _. (t : T) × Yields steps it xs t))
+    → YieldsList steps v s all → ((xs : List A) → map v xs ≡ all → P xs → Q) → OnOk r Q
+map_from_extend {v = v} r ran road says = fact_from_extend v r ran (λ it b. YieldsList-at b road) says

@@ -2,13 +2,12 @@
 ghost use Rattle.std.specs.Prelude.{◌≡◌, IfOk};
 ghost use Rattle.schedule_text.specs.Words.{texts, words_of};
 
-use std::alloc::{AllocError, Global};
+use std::alloc::AllocError;
 
-// The words of a line, which one or more spaces separate.
-pub fn words<'a>(heap: Global, line: &'a [u8]) -> Result<Vec<&'a [u8]>, AllocError>
-    ensures { IfOk result (λ v. texts v.items ≡ words_of line.now) }
+// The words of a line, which one or more spaces separate, in the place of those that stood there.
+pub fn read_words<'a>(words: &mut Vec<&'a [u8]>, line: &'a [u8]) -> Result<(), AllocError>
+    ensures { IfOk result (λ _. texts words.new.items ≡ words_of line.now) }
 {
-    line.split(|c| *c == b' ')
-        .filter(|word| !word.is_empty())
-        .collect(heap)
+    words.clear();
+    words.extend(line.split(|c| *c == b' ').filter(|word| !word.is_empty()))
 }
