@@ -1,5 +1,5 @@
 -- What a call prints before the colon of its answer.
-use Rattle.std.specs.Prelude.{ℕ, List, ◌∷◌, ◌++◌, string_bytes, codes}
+use Rattle.std.specs.Prelude.{ℕ, List, ◌∷◌, ◌++◌, codes}
 use Rattle.schedule_calls.specs.declared.command.Archived.{Archived}
 use Rattle.schedule_calls.specs.declared.command.Archived.TheVariants.{Bytes, Inspected, Played}
 use Rattle.schedule_calls.specs.declared.command.Call.{Call}
@@ -8,14 +8,14 @@ use Rattle.schedule_calls.specs.Numbers.{numeral}
 
 abbrev pub call_text : {R : Type 0} → Call R → List ℕ
 call_text Publish = codes "publish"
-call_text (Open name image) = codes "open " ++ string_bytes name
-call_text (Look name record' at) = codes "look " ++ (string_bytes name ++ 32 ∷ (numeral record').digits)
-call_text (Put name record' value at) = codes "put " ++ (string_bytes name ++ 32 ∷ (numeral record').digits)
-call_text (Tune name image) = codes "tune " ++ string_bytes name
-call_text (Submit name) = codes "submit " ++ string_bytes name
+call_text (Open name image) = codes "open " ++ name.now
+call_text (Look name record' at) = codes "look " ++ (name.now ++ 32 ∷ (numeral record').digits)
+call_text (Put name record' value at) = codes "put " ++ (name.now ++ 32 ∷ (numeral record').digits)
+call_text (Tune name image) = codes "tune " ++ name.now
+call_text (Submit name) = codes "submit " ++ name.now
 call_text Decide = codes "decide"
-call_text (Settle name image) = codes "settle " ++ string_bytes name
-call_text (Waive name) = codes "waive " ++ string_bytes name
+call_text (Settle name image) = codes "settle " ++ name.now
+call_text (Waive name) = codes "waive " ++ name.now
 
 -- what a command on the archive prints before the colon
 abbrev pub archived_text : Archived → List ℕ

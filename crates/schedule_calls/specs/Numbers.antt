@@ -1,5 +1,5 @@
 -- Numbers of any size, as a schedule writes them.
-use Rattle.std.specs.Prelude.{ℕ, Bool, cond, not, ◌&&◌, ◌==◌, List, [], ◌∷◌, length, unwrap_or, Result, Ok, Err, string_bytes, decimal}
+use Rattle.std.specs.Prelude.{ℕ, Bool, cond, not, ◌&&◌, ◌==◌, List, [], ◌∷◌, length, unwrap_or, Result, Ok, Err, decimal}
 use Rattle.std.specs.Char.{is_ascii_digit}
 use Rattle.std.specs.List.{list_all}
 use Rattle.notation.specs.Numbers.{number_of}
@@ -32,7 +32,7 @@ pub record Numeral : Type 0 where
 
 abbrev pub numeral : Number → Numeral
 numeral (Index n) = record { digits = decimal n; value = n }
-numeral (Larger digits) = record { digits = string_bytes digits; value = 18446744073709551615 }
+numeral (Larger digits) = record { digits = digits.now; value = 18446744073709551615 }
 
 -- the number with these digits, or the reason why there is none
 abbrev pub with_digits : List ℕ → Result ℕ Reason → Result Numeral Reason

@@ -1,5 +1,5 @@
 -- What a command tells, with its name and its numbers as the bytes of words.
-use Rattle.std.specs.Prelude.{ℕ, List, Option, string_bytes}
+use Rattle.std.specs.Prelude.{ℕ, List, Option}
 use Rattle.schedule_calls.specs.declared.command.Archived.{Archived}
 use Rattle.schedule_calls.specs.declared.command.Archived.TheVariants.{Bytes, Inspected, Played}
 use Rattle.schedule_calls.specs.declared.command.Call.{Call}
@@ -40,18 +40,18 @@ pub data Told (R : Type 0) : Type 0 where
 
 abbrev pub call_told : {R : Type 0} → Call R → ToldCall R
 call_told Publish = publishes
-call_told (Open name image) = opens (string_bytes name) image
-call_told (Look name record' at) = looks (string_bytes name) (numeral record') at
-call_told (Put name record' value at) = puts (string_bytes name) (numeral record') value at
-call_told (Tune name image) = tunes (string_bytes name) image
-call_told (Submit name) = submits (string_bytes name)
+call_told (Open name image) = opens name.now image
+call_told (Look name record' at) = looks name.now (numeral record') at
+call_told (Put name record' value at) = puts name.now (numeral record') value at
+call_told (Tune name image) = tunes name.now image
+call_told (Submit name) = submits name.now
 call_told Decide = decides
-call_told (Settle name image) = settles (string_bytes name) image
-call_told (Waive name) = waives (string_bytes name)
+call_told (Settle name image) = settles name.now image
+call_told (Waive name) = waives name.now
 
 abbrev pub view_told : View → ToldView
 view_told (Row record') = a_row record'
-view_told (Job name) = a_job (string_bytes name)
+view_told (Job name) = a_job name.now
 view_told Journal = the_journal
 view_told (Image number) = an_image number
 
@@ -62,6 +62,6 @@ archived_told (Played jobs) = plays (numeral jobs)
 
 abbrev pub command_told : {R : Type 0} → Command R → Told R
 command_told (Make call) = makes (call_told call)
-command_told (LetGo name) = lets_go (string_bytes name)
+command_told (LetGo name) = lets_go name.now
 command_told (Show view) = shows (view_told view)
 command_told (Keep archived) = keeps (archived_told archived)

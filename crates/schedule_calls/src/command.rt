@@ -5,72 +5,72 @@ ghost use Rattle.schedule_calls.specs.Calls.{call_text, archived_text};
 use crate::numbers::Number;
 use std::fmt;
 
-// A call of the library. Images are named by number; a look or a put without one is given the image at
+// A call of the library, whose words are the line's. Images are named by number; a look or a put without one is given the image at
 // which its job stands.
-#[derive(Drop)]
-pub enum Call<R> {
+#[derive(Clone, Copy)]
+pub enum Call<'a, R> {
     Publish,
     Open {
-        name: String,
+        name: &'a str,
         image: usize,
     },
     Look {
-        name: String,
-        record: Number,
+        name: &'a str,
+        record: Number<'a>,
         at: Option<usize>,
     },
     Put {
-        name: String,
-        record: Number,
+        name: &'a str,
+        record: Number<'a>,
         value: R,
         at: Option<usize>,
     },
     Tune {
-        name: String,
+        name: &'a str,
         image: usize,
     },
     Submit {
-        name: String,
+        name: &'a str,
     },
     Decide,
     Settle {
-        name: String,
+        name: &'a str,
         image: usize,
     },
     Waive {
-        name: String,
+        name: &'a str,
     },
 }
 
 // What a command shows of the state.
-#[derive(Drop)]
-pub enum View {
+#[derive(Clone, Copy)]
+pub enum View<'a> {
     Row { record: usize },
-    Job { name: String },
+    Job { name: &'a str },
     Journal,
     Image { number: usize },
 }
 
 // What a command shows of the archive of the present journal: its bytes, what inspect says of them, or the values
 // after the first jobs, so many of them.
-#[derive(Drop)]
-pub enum Archived {
+#[derive(Clone, Copy)]
+pub enum Archived<'a> {
     Bytes,
     Inspected,
-    Played { jobs: Number },
+    Played { jobs: Number<'a> },
 }
 
 // One command: a call, a job that is let go, or a state or an archive to be shown.
-#[derive(Drop)]
-pub enum Command<R> {
-    Make(Call<R>),
-    LetGo { name: String },
-    Show(View),
-    Keep(Archived),
+#[derive(Clone, Copy)]
+pub enum Command<'a, R> {
+    Make(Call<'a, R>),
+    LetGo { name: &'a str },
+    Show(View<'a>),
+    Keep(Archived<'a>),
 }
 
 // A call as its answer names it.
-impl<R> fmt::Display for Call<R> {
+impl<R> fmt::Display for Call<'_, R> {
     ghost output = { λ x. Some (call_text x) };
 
     fn fmt<W: fmt::Write>(&self, f: &mut fmt::Formatter<W>) -> fmt::Result {
@@ -98,7 +98,7 @@ impl<R> fmt::Display for Call<R> {
 }
 
 // A command on the archive as its answer names it.
-impl fmt::Display for Archived {
+impl fmt::Display for Archived<'_> {
     ghost output = { λ x. Some (archived_text x) };
 
     fn fmt<W: fmt::Write>(&self, f: &mut fmt::Formatter<W>) -> fmt::Result {

@@ -3,21 +3,20 @@ ghost use Rattle.std.specs.Prelude.{◌≡◌, ◌≤◌, IfOk, Some};
 ghost use Rattle.std.specs.Char.{is_ascii_digit};
 ghost use Rattle.std.specs.List.{list_all};
 ghost use Rattle.schedule_calls.specs.Numbers.{is_number, capped_at, index_of, without_zeros, numeral, numeral_of};
-ghost use Rattle.schedule_calls.specs.Readings.{Reads};
+ghost use Rattle.schedule_calls.specs.Readings.{read_as};
 
-use crate::reason::{Fault, Reason};
+use crate::reason::Reason;
 use notation::numbers::number;
-use std::alloc::Global;
 use std::fmt;
 
 // A number as a schedule writes it: one that the library can take, or a larger one by its digits without leading zeros.
-#[derive(Drop)]
-pub enum Number {
+#[derive(Clone, Copy)]
+pub enum Number<'a> {
     Index(usize),
-    Larger(String),
+    Larger(&'a str),
 }
 
-impl Number {
+impl Number<'_> {
     // The number that is handed on: the largest in place of a larger one.
     pub fn value(&self) -> usize
         ensures { result ≡ (numeral self.now).value }
@@ -30,7 +29,7 @@ impl Number {
 }
 
 // A number by its digits without leading zeros.
-impl fmt::Display for Number {
+impl fmt::Display for Number<'_> {
     ghost output = { λ x. Some (numeral x).digits };
 
     fn fmt<W: fmt::Write>(&self, f: &mut fmt::Formatter<W>) -> fmt::Result {
@@ -86,17 +85,17 @@ fn without_zeros(word: &[u8]) -> &[u8]
 
 // A number with its digits. Only a larger one keeps them: those of an index are read off its value. The cast loses
 // nothing, as above.
-pub fn parse_number(heap: Global, word: &[u8]) -> Result<Number, Fault>
-    ensures { Reads numeral (numeral_of word.now) result }
+pub fn parse_number(word: &[u8]) -> Result<Number<'_>, Reason>
+    ensures { read_as numeral result ≡ numeral_of word.now }
 {
     if let Some(index) = number(word, u64::MAX) {
         return Ok(Number::Index(index as usize));
     }
     if !is_number(word) {
-        return Err(Reason::Number.into());
+        return Err(Reason::Number);
     }
     let Ok(digits) = std::str::from_utf8(without_zeros(word)) else {
-        return Err(Reason::Number.into());
+        return Err(Reason::Number);
     };
-    Ok(Number::Larger(String::from_str(heap, digits)?))
+    Ok(Number::Larger(digits))
 }

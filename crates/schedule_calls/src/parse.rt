@@ -1,19 +1,18 @@
 // From words to a command.
-ghost use Rattle.std.specs.Prelude.{◌≡◌, string_bytes};
+ghost use Rattle.std.specs.Prelude.{◌≡◌};
 ghost use Rattle.std.specs.Char.{is_ascii_alphanumeric};
 ghost use Rattle.std.specs.List.{list_all};
 ghost use Rattle.schedule_text.specs.Words.{texts};
 ghost use Rattle.schedule_calls.specs.Commands.{is_name, name_of, value_of, form_named, alone, one_name, one_index, one_numeral, name_and_image, image_after, at_of, look_of, put_of, formed, command_of};
 ghost use Rattle.schedule_calls.specs.Numbers.{numeral};
-ghost use Rattle.schedule_calls.specs.Readings.{Reads};
+ghost use Rattle.schedule_calls.specs.Readings.{read_as};
 ghost use Rattle.schedule_calls.specs.Told.{call_told, command_told};
 
 use crate::command::{Archived, Call, Command, View};
 use crate::numbers::{Number, parse_index, parse_number};
-use crate::reason::{Fault, Form, Reason};
+use crate::reason::{Form, Reason};
 use notation::text::Notation;
 use notation::words::is_word;
-use std::alloc::Global;
 
 // Whether each byte of a word is a letter or a digit.
 fn are_letters(word: &[u8]) -> bool
@@ -30,16 +29,16 @@ fn is_name(word: &[u8]) -> bool
 }
 
 // The name of a job or a ticket, which is letters and digits.
-fn parse_name(heap: Global, word: &[u8]) -> Result<String, Fault>
-    ensures { Reads (λ s. string_bytes s) (name_of word.now) result }
+fn parse_name(word: &[u8]) -> Result<&str, Reason>
+    ensures { read_as (λ s. s.now) result ≡ name_of word.now }
 {
     if !is_name(word) {
-        return Err(Reason::Name.into());
+        return Err(Reason::Name);
     }
     let Ok(name) = std::str::from_utf8(word) else {
-        return Err(Reason::Name.into());
+        return Err(Reason::Name);
     };
-    Ok(String::from_str(heap, name)?)
+    Ok(name)
 }
 
 // A record's value.
@@ -86,12 +85,12 @@ fn alone(form: Form, words: &[&[u8]]) -> Result<(), Reason>
 }
 
 // A name alone.
-fn one_name(heap: Global, form: Form, words: &[&[u8]]) -> Result<String, Fault>
-    ensures { Reads (λ s. string_bytes s) (one_name form (texts words.now)) result }
+fn one_name<'a>(form: Form, words: &[&'a [u8]]) -> Result<&'a str, Reason>
+    ensures { read_as (λ s. s.now) result ≡ one_name form (texts words.now) }
 {
     match words {
-        [name] => parse_name(heap, name),
-        _ => Err(Reason::Words(form).into()),
+        [name] => parse_name(name),
+        _ => Err(Reason::Words(form)),
     }
 }
 
@@ -106,23 +105,23 @@ fn one_index(form: Form, words: &[&[u8]]) -> Result<usize, Reason>
 }
 
 // A number with its digits alone.
-fn one_number(heap: Global, form: Form, words: &[&[u8]]) -> Result<Number, Fault>
-    ensures { Reads numeral (one_numeral form (texts words.now)) result }
+fn one_number<'a>(form: Form, words: &[&'a [u8]]) -> Result<Number<'a>, Reason>
+    ensures { read_as numeral result ≡ one_numeral form (texts words.now) }
 {
     match words {
-        [number] => parse_number(heap, number),
-        _ => Err(Reason::Words(form).into()),
+        [number] => parse_number(number),
+        _ => Err(Reason::Words(form)),
     }
 }
 
 // A name and the number of an image.
-fn name_and_image(heap: Global, form: Form, words: &[&[u8]]) -> Result<(String, usize), Fault>
-    ensures { Reads (λ p. record { name = string_bytes p.0; image = p.1 }) (name_and_image form (texts words.now)) result }
+fn name_and_image<'a>(form: Form, words: &[&'a [u8]]) -> Result<(&'a str, usize), Reason>
+    ensures { read_as (λ p. record { name = p.0.now; image = p.1 }) result ≡ name_and_image form (texts words.now) }
 {
     let [name, image] = words else {
-        return Err(Reason::Words(form).into());
+        return Err(Reason::Words(form));
     };
-    let name = parse_name(heap, name)?;
+    let name = parse_name(name)?;
     let image = parse_index(image)?;
     Ok((name, image))
 }
@@ -149,28 +148,28 @@ fn parse_at(form: Form, words: &[&[u8]]) -> Result<Option<usize>, Reason>
 }
 
 // A look, at the image that is named or at the job's own.
-fn parse_look<R>(heap: Global, words: &[&[u8]]) -> Result<Call<R>, Fault>
-    ensures { Reads call_told (look_of (texts words.now)) result }
+fn parse_look<'a, R>(words: &[&'a [u8]]) -> Result<Call<'a, R>, Reason>
+    ensures { read_as call_told result ≡ look_of (texts words.now) }
 {
     let [name, record, at @ ..] = words else {
-        return Err(Reason::Words(Form::Look).into());
+        return Err(Reason::Words(Form::Look));
     };
     let at = parse_at(Form::Look, at)?;
-    let name = parse_name(heap, name)?;
-    let record = parse_number(heap, record)?;
+    let name = parse_name(name)?;
+    let record = parse_number(record)?;
     Ok(Call::Look { name, record, at })
 }
 
 // A put, at the image that is named or at the job's own.
-fn parse_put<R: Notation>(heap: Global, words: &[&[u8]]) -> Result<Call<R>, Fault>
-    ensures { Reads call_told (put_of R.Notation.notes (texts words.now)) result }
+fn parse_put<'a, R: Notation>(words: &[&'a [u8]]) -> Result<Call<'a, R>, Reason>
+    ensures { read_as call_told result ≡ put_of R.Notation.notes (texts words.now) }
 {
     let [name, record, value, at @ ..] = words else {
-        return Err(Reason::Words(Form::Put).into());
+        return Err(Reason::Words(Form::Put));
     };
     let at = parse_at(Form::Put, at)?;
-    let name = parse_name(heap, name)?;
-    let record = parse_number(heap, record)?;
+    let name = parse_name(name)?;
+    let record = parse_number(record)?;
     let value = parse_value(value)?;
     Ok(Call::Put {
         name,
@@ -181,27 +180,27 @@ fn parse_put<R: Notation>(heap: Global, words: &[&[u8]]) -> Result<Call<R>, Faul
 }
 
 // The command of a form, from the words after the first.
-fn parse_form<R: Notation>(heap: Global, form: Form, words: &[&[u8]]) -> Result<Command<R>, Fault>
-    ensures { Reads command_told (formed R.Notation.notes form (texts words.now)) result }
+fn parse_form<'a, R: Notation>(form: Form, words: &[&'a [u8]]) -> Result<Command<'a, R>, Reason>
+    ensures { read_as command_told result ≡ formed R.Notation.notes form (texts words.now) }
 {
     match form {
-        Form::Found => Err(Reason::Command.into()),
+        Form::Found => Err(Reason::Command),
         Form::Publish => {
             alone(form, words)?;
             Ok(Command::Make(Call::Publish))
         }
         Form::Open => {
-            let (name, image) = name_and_image(heap, form, words)?;
+            let (name, image) = name_and_image(form, words)?;
             Ok(Command::Make(Call::Open { name, image }))
         }
-        Form::Look => Ok(Command::Make(parse_look(heap, words)?)),
-        Form::Put => Ok(Command::Make(parse_put(heap, words)?)),
+        Form::Look => Ok(Command::Make(parse_look(words)?)),
+        Form::Put => Ok(Command::Make(parse_put(words)?)),
         Form::Tune => {
-            let (name, image) = name_and_image(heap, form, words)?;
+            let (name, image) = name_and_image(form, words)?;
             Ok(Command::Make(Call::Tune { name, image }))
         }
         Form::Submit => {
-            let name = one_name(heap, form, words)?;
+            let name = one_name(form, words)?;
             Ok(Command::Make(Call::Submit { name }))
         }
         Form::Decide => {
@@ -209,15 +208,15 @@ fn parse_form<R: Notation>(heap: Global, form: Form, words: &[&[u8]]) -> Result<
             Ok(Command::Make(Call::Decide))
         }
         Form::Settle => {
-            let (name, image) = name_and_image(heap, form, words)?;
+            let (name, image) = name_and_image(form, words)?;
             Ok(Command::Make(Call::Settle { name, image }))
         }
         Form::Waive => {
-            let name = one_name(heap, form, words)?;
+            let name = one_name(form, words)?;
             Ok(Command::Make(Call::Waive { name }))
         }
         Form::LetGo => {
-            let name = one_name(heap, form, words)?;
+            let name = one_name(form, words)?;
             Ok(Command::LetGo { name })
         }
         Form::Row => {
@@ -225,7 +224,7 @@ fn parse_form<R: Notation>(heap: Global, form: Form, words: &[&[u8]]) -> Result<
             Ok(Command::Show(View::Row { record }))
         }
         Form::Job => {
-            let name = one_name(heap, form, words)?;
+            let name = one_name(form, words)?;
             Ok(Command::Show(View::Job { name }))
         }
         Form::Journal => {
@@ -245,19 +244,19 @@ fn parse_form<R: Notation>(heap: Global, form: Form, words: &[&[u8]]) -> Result<
             Ok(Command::Keep(Archived::Inspected))
         }
         Form::Play => {
-            let jobs = one_number(heap, form, words)?;
+            let jobs = one_number(form, words)?;
             Ok(Command::Keep(Archived::Played { jobs }))
         }
     }
 }
 
 // The command that words are, or why they are none.
-pub fn parse<R: Notation>(heap: Global, words: &[&[u8]]) -> Result<Command<R>, Fault>
-    ensures { Reads command_told (command_of R.Notation.notes (texts words.now)) result }
+pub fn parse<'a, R: Notation>(words: &[&'a [u8]]) -> Result<Command<'a, R>, Reason>
+    ensures { read_as command_told result ≡ command_of R.Notation.notes (texts words.now) }
 {
     let [first, rest @ ..] = words else {
-        return Err(Reason::Command.into());
+        return Err(Reason::Command);
     };
     let form = form_of(first).ok_or(Reason::Command)?;
-    parse_form(heap, form, rest)
+    parse_form(form, rest)
 }

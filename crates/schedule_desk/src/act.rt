@@ -167,7 +167,7 @@ impl<S: Stamp, R: Copy> Desk<S, R> {
 
 impl<S: Stamp, R: Copy> Desk<S, R> {
     // Makes a call.
-    pub fn make(&mut self, call: &Call<R>) -> Result<Answer<S, R>, Failure>
+    pub fn make(&mut self, call: &Call<'_, R>) -> Result<Answer<S, R>, Failure>
         ensures kind { IfOk result (λ a. Answers call.now a) }
         ensures decide { call.now ≡ Call.Decide → Made (decided S.Stamp.kind self.old) result }
     {

@@ -82,7 +82,7 @@ impl Log {
     // A call and its answer.
     pub fn answered<S: Notation, R: Notation>(
         &mut self,
-        call: &Call<R>,
+        call: &Call<'_, R>,
         said: Result<Answer<S, R>, Refusal>,
     ) -> Result<(), Fault>
         ensures text { OnOk result (string_bytes self.new.text ≡ string_bytes self.old.text ++ answer_line S.Notation.notes R.Notation.notes (call_text call.now) said) }

@@ -246,7 +246,7 @@ impl<S: Stamp + Notation, R: Notation> Desk<S, R> {
     }
 
     // Prints a state, which no tally counts.
-    pub fn show(&self, log: &mut Log, view: &View) -> Result<(), Fault>
+    pub fn show(&self, log: &mut Log, view: &View<'_>) -> Result<(), Fault>
         ensures tally { log.new.tally ≡ log.old.tally }
         ensures record { (r : ℕ) → view.now ≡ View.Row r → length self.now.store.rows.items ≤ r → result ≡ Err (NoCall NoRecord) }
         ensures image { (i : ℕ) → view.now ≡ View.Image i → length self.now.images.items ≤ i → result ≡ Err (NoCall NoImage) }

@@ -149,7 +149,7 @@ fn values_after<S: Stamp, R: Record>(
 // What is said of the archive at a command.
 fn answer<S: Stamp, R: Record>(
     desk: &Desk<S, R>,
-    command: &Archived,
+    command: &Archived<'_>,
 ) -> Result<Answered<R>, Unsaid> {
     let archive = archive_of(desk)?;
     Ok(match command {
@@ -163,7 +163,7 @@ fn answer<S: Stamp, R: Record>(
 pub(crate) fn show_archived<S: Stamp, R: Record + Notation>(
     log: &mut Log,
     desk: &Desk<S, R>,
-    command: &Archived,
+    command: &Archived<'_>,
 ) -> Result<(), Fault>
     ensures { log.new.tally ≡ log.old.tally }
 {

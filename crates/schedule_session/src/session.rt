@@ -53,7 +53,7 @@ fn obey<S: Stamp + Notation, R: Record + Notation>(
     log: &mut Log,
     words: &[&[u8]],
 ) -> Result<(), Fault> {
-    let command = parse(desk.heap, words)?;
+    let command = parse(words)?;
     match &command {
         Command::Make(call) => {
             // The closure of a `map_err` could not leave this function with `?`.

@@ -6,7 +6,7 @@ use Rattle.schedule_calls.proofs.numbers.parse_number.Goals as goal
 
 pub returns-in-Some : goal.returns-in-Some
 returns-in-Some c =
-    index_digits c.args.word.now c.in-Some.index (sym c.number.ensures.value ∙ c.in-Some.is)
+    sym (index_digits c.args.word.now c.in-Some.index (sym c.number.ensures.value ∙ c.in-Some.is))
 
 pub returns-in_default-from_utf8 : goal.returns-in_default-from_utf8
 returns-in_default-from_utf8 c =
