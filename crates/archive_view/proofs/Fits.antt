@@ -1,34 +1,24 @@
 -- What play answers for a space of values, and what is told of a space of forms.
-use Rattle.std.proofs.Common.{◌≡◌, ℕ, ◌+◌, ◌*◌, ◌/◌, ◌≤◌, min, Bool, true, false, cond, ◌&&◌, eqb, leb, List, length, drop, Ok, Err, Result, sym, refl, ap, ◌∙◌, subst, arith}
-use Rattle.std.proofs.lemmas.Bool.{and_parts, leb-true, eqb-true, eq-eqb}
+use Rattle.std.proofs.Common.{◌≡◌, ℕ, ◌+◌, ◌*◌, ◌/◌, ◌≤◌, min, Bool, true, false, cond, ◌&&◌, eqb, leb, List, length, Ok, Err, Result, sym, refl, ap, ◌∙◌, subst, arith}
+use Rattle.std.proofs.lemmas.Bool.{and_parts, eqb-true, eq-eqb}
 use Rattle.kinds.specs.Stamps.{Order}
 use Rattle.kinds.specs.Values.{RecordKind}
 use Rattle.archive.specs.declared.fault.Fault.{Fault}
-use Rattle.archive.specs.declared.fault.Fault.TheVariants.{HeadingWrong, SpaceWrong}
+use Rattle.archive.specs.declared.fault.Fault.TheVariants.{SpaceWrong}
 use Rattle.archive.specs.declared.heading.Heading.{Heading}
 use Rattle.archive.specs.Faults.{onward}
-use Rattle.archive.specs.Heading.{mark_right, kinds_right, sizes_right, records_in, jobs_in, read_sizes, read_heading}
-use Rattle.archive.specs.Directory.{read_directory}
 use Rattle.archive.specs.Rule.{read_archive}
-use Rattle.archive.specs.Values.{values_bytes, read_values, stated_values}
-use Rattle.archive.specs.Blocks.{read_blocks}
+use Rattle.archive.specs.Values.{values_bytes, stated_values}
 use Rattle.archive.specs.Played.{blocks_played, room_right, play_answer, play_leaves}
-use Rattle.archive.proofs.Fields.{guarded, bound, ok_same}
+use Rattle.archive.proofs.Fields.{guarded}
+use Rattle.archive.proofs.KnownArchive.{archive_says, stated_within}
 use Rattle.archive_view.specs.Played.{fits, forms_after, forms_told}
 
 -- an archive that was read has at most 1,024 records
 few_records : {S R : Type 0} (o : Order S) (k : RecordKind R) (bs : List ℕ) (h : Heading) → read_archive o k bs ≡ Ok h → h.records ≤ 1024
 few_records o k bs h q =
-    let a = bound (read_heading o.number k.number bs) _ h q in
-    let d = bound (read_directory bs a.0.records a.0.jobs) _ h a.2 in
-    let v = bound (read_values k.form bs (20 + 8 * a.0.jobs) 12 a.0.records) _ h d.2 in
-    let b = bound (read_blocks o k.form bs a.0.records 20 (20 + 8 * a.0.jobs + 12 * a.0.records) o.least a.0.jobs) _ h v.2 in
-    let g = guarded (leb 6 (length bs) && (mark_right bs && kinds_right o.number k.number bs)) (read_sizes (drop 6 bs)) HeadingWrong a.0 a.1 in
-    let s = guarded (sizes_right (drop 6 bs)) (Ok (record { records = records_in (drop 6 bs); jobs = jobs_in (drop 6 bs) })) HeadingWrong a.0 g.1 in
-    let s0 = and_parts (leb 6 (length (drop 6 bs))) _ s.0 in
-    let s1 = and_parts (leb 1 (records_in (drop 6 bs))) _ s0.1 in
-    let s2 = and_parts (leb (records_in (drop 6 bs)) 1024) (leb (jobs_in (drop 6 bs)) 4096) s1.1 in
-    subst (λ (y : Heading). y.records ≤ 1024) (ok_same _ _ s.1 ∙ ok_same _ _ b.2) (leb-true _ _ s2.0)
+    let z = archive_says o k bs h q in
+    subst (λ (y : Heading). y.records ≤ 1024) z.heading (stated_within o k bs h z).few_records
 
 -- what is told of forms, of any that were read
 abbrev told : Result Heading Fault → (Heading → List ℕ) → ℕ → ℕ → Result (List ℕ) Fault
