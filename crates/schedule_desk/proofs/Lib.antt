@@ -1,1 +1,2 @@
 pub mod Foundings
+pub mod MadeLaws

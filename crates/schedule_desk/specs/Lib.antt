@@ -1,4 +1,5 @@
 pub mod Answers
 pub mod Failures
 pub mod Founded
+pub mod Held
 pub mod Made

@@ -1,7 +1,12 @@
 // Calls of the library, as a desk makes them.
-ghost use Rattle.std.specs.Prelude.{◌≡◌, IfOk, OnOk};
+ghost use Rattle.std.specs.Prelude.{◌≡◌, OnOk};
 ghost use Rattle.std.specs.BTreeMap.{get_by_text};
-ghost use Rattle.schedule_desk.specs.Made.{Made, Answers, IsImage, IsStanding, IsValue, IsTicket, IsSettled, decided};
+ghost use Rattle.std.specs.List.{slice_get};
+ghost use Rattle.std.specs.Option.{option_map};
+ghost use Rattle.office.specs.Images.{image_kept};
+ghost use Rattle.station.specs.Heard.{heard};
+ghost use Rattle.schedule_desk.specs.Held.{Shows};
+ghost use Rattle.schedule_desk.specs.Made.{Made, made, published, opened, looked, put_there, tuned, submitted, decided, settled, waived};
 
 use crate::answer::Answer;
 use crate::desk::Desk;
@@ -13,13 +18,15 @@ use office::images::Published;
 use office::store::places;
 use schedule_calls::command::Call;
 use schedule_calls::reason::{Fault, Reason};
-use station::job::{Job, Standing};
+use station::job::Job;
 
 // The image of this number.
 fn image_at<S: Stamp, R: Copy>(
     images: &[Published<S, R>],
     number: usize,
-) -> Result<Image<'_, S, R>, Reason> {
+) -> Result<Image<'_, S, R>, Reason>
+    ensures { Shows (λ i. heard i) (option_map image_kept (slice_get images.now number)) result }
+{
     images
         .get(number)
         .map(|published| published.image())
@@ -30,7 +37,7 @@ fn image_at<S: Stamp, R: Copy>(
 impl<S: Stamp, R: Copy> Desk<S, R> {
     // Publishes the next image.
     fn publish(&mut self) -> Result<Answer<S, R>, Failure>
-        ensures { IfOk result (λ a. IsImage a) }
+        ensures { Made (published S.Stamp.kind self.old) result }
     {
         let mut published = Published::opening(self.heap, &self.store.opening)?;
         let number = self.registrar.publish(
@@ -52,7 +59,7 @@ impl<S: Stamp, R: Copy> Desk<S, R> {
 
     // Submits a job; its name stands for the ticket then.
     fn submit(&mut self, name: &str) -> Result<Answer<S, R>, Failure>
-        ensures { IfOk result (λ a. IsTicket a) }
+        ensures { Made (submitted S.Stamp.kind self.old name.now) result }
     {
         let (name, Station { job, sheet }) = self.holdings.take_job(name)?;
         match self.registrar.submit(self.store.lend(), job, &sheet) {
@@ -71,7 +78,7 @@ impl<S: Stamp, R: Copy> Desk<S, R> {
 
     // Settles a ticket, which frees its name.
     fn settle(&mut self, name: &str, image: usize) -> Result<Answer<S, R>, Failure>
-        ensures { IfOk result (λ a. IsSettled a) }
+        ensures { Made (settled S.Stamp.kind self.old name.now image) result }
     {
         let (name, ticket) = self.holdings.take_ticket(name)?;
         let image = match image_at(&self.images, image) {
@@ -92,7 +99,7 @@ impl<S: Stamp, R: Copy> Desk<S, R> {
 
     // Waives a ticket, which frees its name.
     fn waive(&mut self, name: &str) -> Result<Answer<S, R>, Failure>
-        ensures { IfOk result (λ a. a ≡ Answer.Done) }
+        ensures { Made (waived S.Stamp.kind self.old name.now) result }
     {
         let (_, ticket) = self.holdings.take_ticket(name)?;
         ticket.waive();
@@ -104,7 +111,7 @@ impl<S: Stamp, R: Copy> Desk<S, R> {
 impl<S: Stamp, R: Copy> Desk<S, R> {
     // Opens a job, unless its name stands.
     fn open(&mut self, name: &str, image: usize) -> Result<Answer<S, R>, Failure>
-        ensures { IfOk result (λ a. a ≡ Answer.Stands Standing.Live) }
+        ensures { Made (opened S.Stamp.kind self.old name.now image) result }
     {
         let name = self.holdings.free(name)?;
         let job = Job::open(image_at(&self.images, image)?)?;
@@ -119,14 +126,14 @@ impl<S: Stamp, R: Copy> Desk<S, R> {
     fn look(
         &mut self,
         name: &str,
-        record: usize,
+        number: usize,
         at: Option<usize>,
     ) -> Result<Answer<S, R>, Failure>
-        ensures { IfOk result (λ a. IsValue a) }
+        ensures { Made (looked S.Stamp.kind self.old name.now number at) result }
     {
         let station = self.holdings.job_mut(name)?;
         let image = image_at(&self.images, station.image(at))?;
-        let value = station.job.look(&mut station.sheet, image, record)?;
+        let value = station.job.look(&mut station.sheet, image, number)?;
         Ok(Answer::Value(value))
     }
 
@@ -134,21 +141,21 @@ impl<S: Stamp, R: Copy> Desk<S, R> {
     fn put(
         &mut self,
         name: &str,
-        record: usize,
+        number: usize,
         value: R,
         at: Option<usize>,
     ) -> Result<Answer<S, R>, Failure>
-        ensures { IfOk result (λ a. a ≡ Answer.Done) }
+        ensures { Made (put_there S.Stamp.kind self.old name.now number value at) result }
     {
         let station = self.holdings.job_mut(name)?;
         let image = image_at(&self.images, station.image(at))?;
-        station.job.put(&mut station.sheet, image, record, value)?;
+        station.job.put(&mut station.sheet, image, number, value)?;
         Ok(Answer::Done)
     }
 
     // A job tunes to an image.
     fn tune(&mut self, name: &str, image: usize) -> Result<Answer<S, R>, Failure>
-        ensures { IfOk result (λ a. IsStanding a) }
+        ensures { Made (tuned S.Stamp.kind self.old name.now image) result }
     {
         let station = self.holdings.job_mut(name)?;
         let image = image_at(&self.images, image)?;
@@ -168,8 +175,7 @@ impl<S: Stamp, R: Copy> Desk<S, R> {
 impl<S: Stamp, R: Copy> Desk<S, R> {
     // Makes a call.
     pub fn make(&mut self, call: &Call<'_, R>) -> Result<Answer<S, R>, Failure>
-        ensures kind { IfOk result (λ a. Answers call.now a) }
-        ensures decide { call.now ≡ Call.Decide → Made (decided S.Stamp.kind self.old) result }
+        ensures { Made (made S.Stamp.kind self.old call.now) result }
     {
         match call {
             Call::Publish => self.publish(),

@@ -1,6 +1,9 @@
 // What names stand for: jobs with their sheets, and tickets.
-ghost use Rattle.std.specs.Prelude.{◌≡◌, [], OnOk};
+ghost use Rattle.std.specs.Prelude.{◌≡◌, [], OnOk, IfErr, unwrap_or, Some};
 ghost use Rattle.std.specs.BTreeMap.{get_by_text};
+ghost use Rattle.std.specs.Option.{option_copied, option_copied_mut};
+ghost use Rattle.schedule_calls.specs.declared.reason.Fault.TheVariants.{Memory};
+ghost use Rattle.schedule_desk.specs.Held.{Finds, job_held, job_named, ticket_named, if_free};
 
 use model::entry::Entry;
 use registrar::ticket::Ticket;
@@ -19,7 +22,9 @@ pub(crate) struct Station<S: Copy, R: Copy> {
 impl<S: Copy, R: Copy> Station<S, R> {
     // The number of the image that is named, or else of the one at which the job stands. It is cast, since a `u32`
     // has no `From` for a `usize`.
-    pub(crate) fn image(&self, named: Option<usize>) -> usize {
+    pub(crate) fn image(&self, named: Option<usize>) -> usize
+        ensures { result ≡ unwrap_or named self.now.job.image }
+    {
         named.unwrap_or(self.job.image as usize)
     }
 }
@@ -32,7 +37,9 @@ pub(crate) enum Holding<S: Copy, R: Copy> {
 
 impl<S: Copy, R: Copy> Holding<S, R> {
     // The job, unless it was submitted.
-    fn job(&self) -> Option<&Station<S, R>> {
+    fn job(&self) -> Option<&Station<S, R>>
+        ensures { option_copied result ≡ job_held (Some self.now) }
+    {
         match self {
             Holding::AtWork(station) => Some(station),
             Holding::Submitted(_) => None,
@@ -41,7 +48,9 @@ impl<S: Copy, R: Copy> Holding<S, R> {
 
     // The job, unless it was submitted, for a call that goes on with it. It stands beside `job` as `get_mut` does
     // beside `get`: no function lends both ways.
-    fn job_mut(&mut self) -> Option<&mut Station<S, R>> {
+    fn job_mut(&mut self) -> Option<&mut Station<S, R>>
+        ensures { option_copied_mut result ≡ job_held (Some self.old) }
+    {
         match self {
             Holding::AtWork(station) => Some(station),
             Holding::Submitted(_) => None,
@@ -81,6 +90,7 @@ fn standing<T, F: FnOnce(String) -> Reason + Drop>(
     reason: F,
 ) -> Result<T, Fault>
     requires { F.IsAlwaysCallable reason }
+    ensures { Finds (λ x. x) found result }
 {
     match found {
         Some(found) => Ok(found),
@@ -100,7 +110,9 @@ impl<S: Copy, R: Copy> Holdings<S, R> {
     }
 
     // The name, unless it stands.
-    pub(crate) fn free(&self, name: &str) -> Result<String, Fault> {
+    pub(crate) fn free(&self, name: &str) -> Result<String, Fault>
+        ensures { Finds (λ _. tt) (if_free (get_by_text self.now.named name.now)) result }
+    {
         let stands = self.named.contains_key(name);
         let name = String::from_str(self.heap, name)?;
         if stands {
@@ -110,13 +122,17 @@ impl<S: Copy, R: Copy> Holdings<S, R> {
     }
 
     // The job of this name.
-    pub(crate) fn job(&self, name: &str) -> Result<&Station<S, R>, Fault> {
+    pub(crate) fn job(&self, name: &str) -> Result<&Station<S, R>, Fault>
+        ensures { Finds (λ t. t.now) (job_named self.now name.now) result }
+    {
         let found = self.named.get(name).and_then(|holding| holding.job());
         standing(self.heap, found, name, Reason::NoJob)
     }
 
     // The job of this name, for a call that goes on with it: `job` again, through a `&mut`.
-    pub(crate) fn job_mut(&mut self, name: &str) -> Result<&mut Station<S, R>, Fault> {
+    pub(crate) fn job_mut(&mut self, name: &str) -> Result<&mut Station<S, R>, Fault>
+        ensures { Finds (λ t. t.now) (job_named self.old name.now) result }
+    {
         let found = self
             .named
             .get_mut(name)
@@ -126,7 +142,8 @@ impl<S: Copy, R: Copy> Holdings<S, R> {
 
     // Takes the job of this name, with the name, which is free then. A ticket stays.
     pub(crate) fn take_job(&mut self, name: &str) -> Result<(String, Station<S, R>), Fault>
-        ensures { OnOk result (get_by_text self.new.named name.now ≡ None) }
+        ensures free { OnOk result (get_by_text self.new.named name.now ≡ None) }
+        ensures job { Finds (λ p. p.1) (job_named self.old name.now) result }
     {
         let found = self.named.remove_entry(name);
         let (taken, holding) = standing(self.heap, found, name, Reason::NoJob)?;
@@ -141,7 +158,9 @@ impl<S: Copy, R: Copy> Holdings<S, R> {
 
     // Takes the ticket of this name, with the name, which is free then. A job at work stays. It is `take_job` with
     // the cases turned round: one function for both would have to be handed the cases and the reason.
-    pub(crate) fn take_ticket(&mut self, name: &str) -> Result<(String, Ticket), Fault> {
+    pub(crate) fn take_ticket(&mut self, name: &str) -> Result<(String, Ticket), Fault>
+        ensures { Finds (λ p. p.1) (ticket_named self.old name.now) result }
+    {
         let found = self.named.remove_entry(name);
         let (taken, holding) = standing(self.heap, found, name, Reason::NoTicket)?;
         match holding {
@@ -154,7 +173,9 @@ impl<S: Copy, R: Copy> Holdings<S, R> {
     }
 
     // The name stands for this from here on. What finds no place is let go.
-    pub(crate) fn keep(&mut self, name: String, holding: Holding<S, R>) -> Result<(), Fault> {
+    pub(crate) fn keep(&mut self, name: String, holding: Holding<S, R>) -> Result<(), Fault>
+        ensures { IfErr result (λ fault. fault ≡ Memory) }
+    {
         match self.named.insert(name, holding) {
             Ok(None) => Ok(()),
             Ok(Some(earlier)) => {
