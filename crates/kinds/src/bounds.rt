@@ -4,6 +4,7 @@ ghost use Rattle.kinds.specs.Stamps.{Same};
 ghost use Rattle.kinds.specs.Bounds.{later as later_of, earlier as earlier_of, same as same_as, LaterLaw, EarlierLaw};
 
 use crate::stamp::Stamp;
+use std::cmp::Ordering;
 
 // Whether a stamp is before another.
 pub fn before<S: Stamp>(a: S, b: S) -> bool
@@ -37,5 +38,5 @@ pub fn same<S: Stamp>(a: S, b: S) -> bool
     ensures told { result ≡ true → Same S.Stamp.kind.order a b }
     ensures law { Same S.Stamp.kind.order a b → result ≡ true }
 {
-    a.compare(b).is_eq()
+    matches!(a.compare(b), Ordering::Equal)
 }

@@ -53,12 +53,15 @@ impl Record for Item {
     fn from_bytes(bytes: [u8; 12]) -> Option<Item>
         ensures { result ≡ item_read bytes }
     {
-        match bytes {
-            [0, 0, 0, 0, 0, 0, 0, 0, 0, 0, 0, 0] => Some(Item::Withdrawn),
-            [1, 0, 0, 0, a, b, c, d, 0, 0, 0, 0] => Some(Item::Solid {
-                shape: u32::from_be_bytes([a, b, c, d]),
+        let [tag, 0, 0, 0, a, b, c, d, 0, 0, 0, 0] = bytes else {
+            return None;
+        };
+        match (tag, [a, b, c, d]) {
+            (0, [0, 0, 0, 0]) => Some(Item::Withdrawn),
+            (1, shape) => Some(Item::Solid {
+                shape: u32::from_be_bytes(shape),
             }),
-            [2, 0, 0, 0, p, q, m, n, 0, 0, 0, 0] => {
+            (2, [p, q, m, n]) => {
                 let part = u16::from_be_bytes([p, q]);
                 let count = u16::from_be_bytes([m, n]);
                 (count != 0).then_some(Item::SubAssembly { part, count })
