@@ -71,7 +71,9 @@ fn are_noted<S: Stamp>(looks: &[[u8; 22]]) -> bool
     looks.iter().all(|look| stamp::<S>(look, 2).is_some())
 }
 
-// Whether the record numbers of a block, and the stamps of its looks, are right.
+// Whether the record numbers of a block, and the stamps of its looks, are right. It is inlined as are the rows below it:
+// a block with few of them costs a quarter more otherwise.
+#[inline(always)]
 fn names<S: Stamp>(bytes: &[u8], n: usize, at: usize, h: Opened<S>) -> bool
     requires { Whole bytes.now at h }
     ensures { result ≡ names_of S.Stamp.kind.order bytes.now n at h.looks h.puts }

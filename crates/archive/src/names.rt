@@ -52,6 +52,7 @@ pub(crate) fn names_fit(n: usize, looks: &[u16], puts: &[u16]) -> bool
 
 // The record numbers of some rows: the first 2 bytes of each. This crate has no heap, so they lie in an array
 // with room for the most that a block has.
+#[inline(always)]
 pub(crate) fn gather<const N: usize>(rows: &[[u8; N]]) -> [u16; 16]
     requires { (2 ≤ N) × (length rows.now ≤ 16) }
     ensures { take (length rows.now) result ≡ map number2 rows.now }

@@ -37,6 +37,7 @@ fn enter_put<R: Record>(put: &[u8; 14], space: &mut [R])
 }
 
 // Enters so many puts, from a place on.
+#[inline(always)]
 fn enter_puts<R: Record>(bytes: &[u8], first: usize, space: &mut [R], count: usize)
     requires { first + 14 * count ≤ length bytes.now }
     ensures { space.new ≡ values_after R.Record.kind.form bytes.now first space.old count }
@@ -54,7 +55,9 @@ fn enter_block<R: Record>(bytes: &[u8], at: usize, space: &mut [R])
     if at + 16 > bytes.len() {
         return;
     }
-    let [looks, puts] = form::<2>(bytes, at + 12).map(usize::from);
+    let [looks, puts] = form::<2>(bytes, at + 12);
+    let looks = usize::from(looks);
+    let puts = usize::from(puts);
     if at + (16 + 22 * looks + 14 * puts) <= bytes.len() {
         enter_puts(bytes, at + 16 + 22 * looks, space, puts);
     }

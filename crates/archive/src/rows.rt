@@ -14,6 +14,7 @@ pub(crate) fn form<const N: usize>(bytes: &[u8], at: usize) -> [u8; N]
 }
 
 // So many rows of N bytes, from a place on.
+#[inline(always)]
 pub(crate) fn rows<const N: usize>(bytes: &[u8], at: usize, count: usize) -> &[[u8; N]]
     requires { (0 < N) × (at + N * count ≤ length bytes.now) }
     ensures rows { result.now ≡ first_chunks N count (drop at bytes.now) }
