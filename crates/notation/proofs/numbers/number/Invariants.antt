@@ -1,6 +1,6 @@
 use Rattle.std.proofs.Common.{◌≡◌, drop}
 use Rattle.notation.specs.Numbers.{number_of}
-use Rattle.notation.proofs.DigitLaws.{read_on}
+use Rattle.notation.specs.NumberLaws.{read_on}
 use Rattle.notation.proofs.numbers.number.Given as goal
 
 -- the answer is what the bytes that are left write after the number so far
