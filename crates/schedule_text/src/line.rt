@@ -7,7 +7,7 @@ ghost use Rattle.schedule_text.specs.Lines.{lines_of, passed_over, line_of};
 use crate::command::Command;
 use crate::parse::parse;
 use crate::reason::Reason;
-use crate::words::read_words;
+use crate::words::words;
 use notation::cut::cut;
 use std::alloc::{AllocError, Global};
 
@@ -58,8 +58,7 @@ pub fn is_passed_over(words: &[&[u8]]) -> bool
 pub fn read_line(heap: Global, line: &[u8]) -> Result<Result<Option<Command>, Reason>, AllocError>
     ensures { IfOk result (λ l. l ≡ line_of line.now) }
 {
-    let mut words = Vec::new(heap);
-    read_words(&mut words, line)?;
+    let words = words(heap, line)?;
     if is_passed_over(&words) {
         return Ok(Ok(None));
     }
