@@ -21,7 +21,7 @@ use schedule_calls::reason::{Fault, Reason};
 use station::job::Job;
 
 // The image of this number.
-fn image_at<S: Stamp, R: Copy>(
+pub fn image_at<S: Stamp, R: Copy>(
     images: &[Published<S, R>],
     number: usize,
 ) -> Result<Image<'_, S, R>, Reason>

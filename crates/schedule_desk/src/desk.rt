@@ -20,7 +20,7 @@ pub struct Desk<S: Copy, R: Copy> {
     pub store: Store<S, R>,
     pub images: Vec<Published<S, R>>,
     pub blank: Entry<S, R>,
-    pub(crate) holdings: Holdings<S, R>,
+    pub holdings: Holdings<S, R>,
 }
 
 impl<S: Stamp, R: Copy> Desk<S, R> {

@@ -14,9 +14,9 @@ use std::collections::BTreeMap;
 
 // A job with its sheet.
 #[derive(Drop)]
-pub(crate) struct Station<S: Copy, R: Copy> {
-    pub(crate) job: Job<S>,
-    pub(crate) sheet: Vec<Entry<S, R>>,
+pub struct Station<S: Copy, R: Copy> {
+    pub job: Job<S>,
+    pub sheet: Vec<Entry<S, R>>,
 }
 
 impl<S: Copy, R: Copy> Station<S, R> {
@@ -30,7 +30,7 @@ impl<S: Copy, R: Copy> Station<S, R> {
 }
 
 // What a name stands for: a job at work, or the ticket of a job that was submitted.
-pub(crate) enum Holding<S: Copy, R: Copy> {
+pub enum Holding<S: Copy, R: Copy> {
     AtWork(Station<S, R>),
     Submitted(Ticket),
 }
@@ -67,7 +67,7 @@ impl<S: Copy, R: Copy> Holding<S, R> {
 }
 
 // The jobs and the tickets by name.
-pub(crate) struct Holdings<S: Copy, R: Copy> {
+pub struct Holdings<S: Copy, R: Copy> {
     heap: Global,
     named: BTreeMap<String, Holding<S, R>>,
 }
@@ -100,7 +100,7 @@ fn standing<T, F: FnOnce(String) -> Reason + Drop>(
 
 impl<S: Copy, R: Copy> Holdings<S, R> {
     // No name stands.
-    pub(crate) fn new(heap: Global) -> Holdings<S, R>
+    pub fn new(heap: Global) -> Holdings<S, R>
         ensures { result.named.entries ≡ [] }
     {
         Holdings {
@@ -194,7 +194,7 @@ impl<S: Copy, R: Copy> Holdings<S, R> {
     }
 
     // Lets all go that stands, one by one.
-    pub(crate) fn close(self) {
+    pub fn close(self) {
         let Holdings { heap: _, mut named } = self;
         while let Some((_, holding)) = named.pop_first() {
             holding.let_go();

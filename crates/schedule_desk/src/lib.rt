@@ -3,10 +3,10 @@
 
 #![tactic(auto)]
 
-mod act;
+pub mod act;
 pub mod answer;
 pub mod desk;
 pub mod failure;
-mod holdings;
+pub mod holdings;
 pub mod log;
 mod show;

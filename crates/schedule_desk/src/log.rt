@@ -7,7 +7,7 @@ use crate::answer::{Answer, Said};
 use model::refusal::Refusal;
 use notation::text::Notation;
 use schedule_calls::command::Call;
-use schedule_calls::reason::Fault;
+use schedule_calls::reason::{Fault, Reason};
 use std::alloc::Global;
 use std::fmt;
 use std::fmt::Write;
@@ -89,6 +89,14 @@ impl Log {
         ensures tally { OnOk result (self.new.tally ≡ tallied (is_err said) self.old.tally) }
     {
         self.said(call, said)
+    }
+
+    // The line that says why a line is no call. It counts none.
+    pub fn no_call(&mut self, line: usize, reason: &Reason) -> Result<(), Fault>
+        ensures { self.new.tally ≡ self.old.tally }
+    {
+        writeln!(self.text, "line {line}: {reason}")?;
+        Ok(())
     }
 
     // The last line: the calls, and the jobs in the journal.
