@@ -4,4 +4,4 @@
 
 mod archived;
 pub mod run;
-mod session;
+pub mod session;

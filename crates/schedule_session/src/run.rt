@@ -10,7 +10,6 @@ use schedule_desk::log::Log;
 use schedule_text::line::Lines;
 use schedule_text::run::{Printout, Stopped};
 use std::alloc::{AllocError, Global};
-use std::fmt::Write;
 
 // What an empty input is answered with.
 const HELP: &str = "A schedule: one command to a line. Lines that begin with # are passed over.
@@ -57,6 +56,9 @@ read KIND DIGITS
 values: whole 65536, page 3/17, card 4:mm:250, item withdrawn, solid:77 or sub:12:4
 ";
 
+// The words of the longest call, a founding of 1,024 records.
+const MOST_WORDS: usize = 1028;
+
 // Where a run ends early, and why.
 #[derive(Drop)]
 struct Stop {
@@ -64,7 +66,8 @@ struct Stop {
     fault: Fault,
 }
 
-// Carries out the lines of an input, up to the first that is no call.
+// Carries out the lines of an input, up to the first that is no call. Their words go to one list, which is let go
+// behind a line that is longer than any call, so that it does not keep that room for the rest of the run.
 fn run_lines(heap: Global, session: &mut Session, input: &[u8]) -> Result<(), Stop>
     ensures { IfErr result (λ s. (1 ≤ s.line) × (s.line ≤ length (lines_of input.now))) }
 {
@@ -73,6 +76,9 @@ fn run_lines(heap: Global, session: &mut Session, input: &[u8]) -> Result<(), St
         if let Err(fault) = session.carry_out(&mut words, line) {
             let line = i + 1;
             return Err(Stop { line, fault });
+        }
+        if words.len() > MOST_WORDS {
+            words = Vec::new(heap);
         }
     }
     Ok(())
@@ -95,7 +101,7 @@ fn finish(mut log: Log, ended: Result<(), Stop>, jobs: Option<usize>) -> Result<
                 fault: Fault::NoCall(reason),
             },
         ) => {
-            writeln!(log.text, "line {line}: {reason}")?;
+            log.no_call(line, &reason)?;
             Err(Stopped { line })
         }
         Err(Stop { line: _, fault }) => return Err(fault),

@@ -41,7 +41,7 @@ enum State {
     Page(Register<VolumePage>),
 }
 
-pub(crate) struct Session {
+pub struct Session {
     heap: Global,
     log: Log,
     state: State,
@@ -187,7 +187,7 @@ impl Session {
 
 impl Session {
     // A session before its founding.
-    pub(crate) fn new(heap: Global) -> Session {
+    pub fn new(heap: Global) -> Session {
         Session {
             heap,
             log: Log::new(heap),
@@ -214,7 +214,7 @@ impl Session {
     }
 
     // Carries out a line, unless it is passed over. Its words go to a list that serves every line.
-    pub(crate) fn carry_out<'a>(
+    pub fn carry_out<'a>(
         &mut self,
         words: &mut Vec<&'a [u8]>,
         line: &'a [u8],
@@ -232,7 +232,7 @@ impl Session {
 
     // Ends the session. Answers the printout, and the number of jobs in the journal, which is none where
     // no register was asked for.
-    pub(crate) fn close(self) -> (Log, Option<usize>) {
+    pub fn close(self) -> (Log, Option<usize>) {
         let Session {
             heap: _,
             log,
